@@ -1,0 +1,6 @@
+-- General laws, each proved once. What the kit has already (its list, number and test laws) is cited from there.
+pub mod Booleans
+pub mod Copying
+pub mod FirstLaws
+pub mod Mapped
+pub mod WeighedLaws
