@@ -54,3 +54,20 @@ module _ {A : Type 0} (passes : A → Bool) where
       (λ i h.
       let within : i < min n (length xs) = rw (length-take n xs) at h in
       rw (getD-take n xs i d (omega arith)) (all-pass xs e i d (omega arith)))
+
+  -- the first that fails does, and those before it pass
+  pub first-fails : (xs : List A) (d : A) → firstNot passes xs < length xs → passes (getD xs (firstNot passes xs) d) ≡ false
+  unfolding firstNot
+  first-fails [] d h = absurd (not-suc-le-zero h)
+  first-fails (x ∷ xs) d h = go (passes x) refl h (first-fails xs d)
+    where
+      go : (b : Bool) → passes x ≡ b → cond b (suc (firstNot passes xs)) zero < suc (length xs) → (firstNot passes xs < length xs → passes (getD xs (firstNot passes xs) d) ≡ false) → passes (getD (x ∷ xs) (cond b (suc (firstNot passes xs)) zero) d) ≡ false
+      go true p h rest = rest (le-of-suc-le-suc h)
+      go false p h rest = p
+
+  pub first-unique : (xs : List A) (d : A) (k : ℕ) → k < length xs → passes (getD xs k d) ≡ false → ((i : ℕ) → i < k → passes (getD xs i d) ≡ true) → firstNot passes xs ≡ k
+  unfolding firstNot
+  first-unique [] d k h e p = absurd (not-suc-le-zero h)
+  first-unique (x ∷ xs) d zero h e p = rw e
+  first-unique (x ∷ xs) d (suc k) h e p =
+      rw (p 0 (omega arith)) (ap suc (first-unique xs d k (le-of-suc-le-suc h) e (λ i below. p (suc i) (suc-le-suc below))))

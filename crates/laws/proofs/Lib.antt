@@ -1,6 +1,11 @@
 -- General laws, each proved once. What the kit has already (its list, number and test laws) is cited from there.
 pub mod Booleans
 pub mod Copying
+pub mod Exchanged
+pub mod FirstChanged
 pub mod FirstLaws
 pub mod Mapped
+pub mod Packed
+pub mod Remainders
 pub mod WeighedLaws
+pub mod Tables

@@ -1,6 +1,10 @@
 -- General notions that the rules of several crates are written in.
 --
 --   firstNot   First     the place of the first element that fails a test
+--   packed     Packed    bytes as one number
 --   weighed    Weighed   a sum in which each element has a weight by its distance from the right end
+--   Below      Below     every element of a list is below a bound
 pub mod First
+pub mod Below
+pub mod Packed
 pub mod Weighed

@@ -30,6 +30,11 @@ pub record Fills {A : Type 0} (o : Outcome (List A)) (before : List A) (r : Answ
   pub answer : r ≡ answerOf o
   pub lent : after ≡ laid o before
 
+-- the same for a working list of the call's own: what it holds after a refusal is nobody's concern
+pub record FillsOwn {A : Type 0} (o : Outcome (List A)) (before : List A) (r : Answer) (after : List A) : Type 0 where
+  pub answer : r ≡ answerOf o
+  pub lent : (xs : List A) → o ≡ made xs → after ≡ xs ++ drop (length xs) before
+
 -- refusal 12: the lent list is too short for what this call needs
 abbrev pub laying : {A : Type 0} → List A → ℕ → Outcome (List A)
 laying xs room = do

@@ -3,6 +3,8 @@
 use mathlib.Core.Bool.{Bool, true, false}
 use Rattle.refusal.specs.declared.Refusal.{Refusal}
 
+infixr 60 _>>=_
+infixr 60 _>>_
 pub data Outcome (A : Type 0) : Type 0 where
   made : A → Outcome A
   refused : Refusal → Outcome A

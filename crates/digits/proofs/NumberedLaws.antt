@@ -1,0 +1,156 @@
+-- The rules of the calls that draw and read a number, read backwards, and how they undo one another: a right number is its digits, its
+-- digits are its bytes, so all that a symbology adds is that its scan and its drawing undo one another.
+use Prim.Native.Nat.{ℕ, _+_, _-_, _≤_, _<_}
+use mathlib.Core.Path.{_≡_, refl, sym, ap, ap₂, _∙_, subst}
+use mathlib.Core.Bool.{true, false}
+use mathlib.Core.List.{List, [], _∷_, map}
+use native.Mathlib.Nat.{add-sub-cancel-left}
+use native.Mathlib.Omega.{arith}
+use lib.ListN.{length, getD, length-map, List·getD-map}
+use lib.Seq.{ext-getD}
+use lib.Dec.{eqb}
+use borrow.Author.Tests.{le-leb, eqb-true, eq-eqb}
+use Rattle.laws.specs.First.{firstNot}
+use Rattle.laws.proofs.FirstLaws.{all-pass, pass-all}
+use Rattle.refusal.specs.declared.Answer.the-variants.{Done, Refused}
+use Rattle.refusal.specs.declared.Refusal.{Refusal}
+use Rattle.refusal.specs.declared.Refusal.the-variants.{Count, Character, CheckDigit}
+use Rattle.refusal.specs.Outcome.{Outcome, made, refused, must, _>>=_, _>>_}
+use Rattle.refusal.specs.Fills.{answerOf, laying}
+use Rattle.refusal.proofs.OutcomeLaws.{made-same, must-made, bind-made, must-then}
+use Rattle.refusal.proofs.FillsLaws.{refused-of-answer, made-of-answer, laying-made, made-of-laying}
+use Rattle.digits.specs.Digit.{isDigit, valueOf, digitsOf}
+use Rattle.digits.specs.Check.{isRight, rightNumber}
+use Rattle.digits.specs.Numbered.{byteOf, numberWritten, numberRead}
+use Rattle.digits.proofs.DigitLaws.{digit-range, digit-at, digits-made}
+
+pub digits-of-made : (bytes ds : List ℕ) → digitsOf bytes ≡ made ds → (firstNot isDigit bytes ≡ length bytes) × (ds ≡ map valueOf bytes)
+unfolding digitsOf
+digits-of-made bytes ds e =
+    let parts = must-made (eqb (firstNot isDigit bytes) (length bytes)) (Character (firstNot isDigit bytes)) (made (map valueOf bytes)) ds e in
+    (eqb-true _ _ (parts .0), sym (made-same _ _ (parts .1)))
+
+-- what is known of a number that passed
+pub record RightNumber (count : ℕ) (number ds : List ℕ) : Type 0 where
+  pub counted : length number ≡ count
+  pub all : firstNot isDigit number ≡ length number
+  pub values : ds ≡ map valueOf number
+  pub right : isRight ds ≡ true
+
+pub right-made : (count : ℕ) (number ds : List ℕ) → rightNumber count number ≡ made ds → RightNumber count number ds
+unfolding rightNumber
+right-made count number ds e =
+    let a = must-made (eqb (length number) count) Count _ ds e in
+    let b = bind-made (digitsOf number) (λ (digits : List ℕ). must (isRight digits) CheckDigit >> made digits) ds (a .1) in
+    let c = must-made (isRight (b .0)) CheckDigit (made (b .0)) ds (b .2) in
+    let same : b .0 ≡ ds = made-same (b .0) ds (c .1) in
+    let d = digits-of-made number (b .0) (b .1) in
+    record { counted = eqb-true _ _ (a .0); all = d .0; values = sym same ∙ d .1; right = rw same at (c .0) }
+
+pub right-done : (count : ℕ) (number : List ℕ) (n : ℕ) → Done n ≡ answerOf (rightNumber count number) → RightNumber count number (map valueOf number)
+right-done count number n e =
+    let m = made-of-answer (rightNumber count number) n e in
+    let r = right-made count number (m .0) (m .1) in
+    subst (λ (ds : List ℕ). RightNumber count number ds) (r .values) r
+
+pub right-refused : (count : ℕ) (number : List ℕ) (f : Refusal) → Refused f ≡ answerOf (rightNumber count number) → rightNumber count number ≡ refused f
+right-refused count number f e = refused-of-answer (rightNumber count number) f e
+
+pub right-of-parts : (count : ℕ) (number ds : List ℕ) → RightNumber count number ds → rightNumber count number ≡ made ds
+unfolding rightNumber
+right-of-parts count number ds r =
+    let right : isRight (map valueOf number) ≡ true = rw (← r .values) (r .right) in
+    simp (eq-eqb _ _ (r .counted), digits-made number (r .all), right) (ap made (sym (r .values)))
+
+-- every element is a digit's value
+abbrev pub Digits : List ℕ → Type 0
+Digits ds = (i : ℕ) → i < length ds → getD ds i 0 < 10
+
+pub values-are-digits : (bytes : List ℕ) → firstNot isDigit bytes ≡ length bytes → Digits (map valueOf bytes)
+values-are-digits bytes all i h =
+    let within : i < length bytes = rw length-map at h in
+    rw (List·getD-map valueOf bytes i 0) (omega (arith, digit-at bytes all i within .1))
+
+pub bytes-of-values : (bytes : List ℕ) → firstNot isDigit bytes ≡ length bytes → map byteOf (map valueOf bytes) ≡ bytes
+bytes-of-values bytes all =
+    ext-getD 48 (map byteOf (map valueOf bytes)) bytes (length-map (map valueOf bytes) byteOf ∙ length-map bytes valueOf)
+    (λ i h.
+    let within : i < length bytes = simp length-map at h in
+    rw (List·getD-map byteOf (map valueOf bytes) i 0, List·getD-map valueOf bytes i 48)
+    (omega (arith, digit-range (getD bytes i 48) (all-pass isDigit bytes all i 48 within) .0)))
+
+pub values-of-bytes : (ds : List ℕ) → map valueOf (map byteOf ds) ≡ ds
+values-of-bytes [] = refl
+values-of-bytes (d ∷ ds) = ap₂ (λ (v : ℕ) (vs : List ℕ). v ∷ vs) (add-sub-cancel-left 48 d) (values-of-bytes ds)
+
+pub bytes-are-digits : (ds : List ℕ) → Digits ds → firstNot isDigit (map byteOf ds) ≡ length (map byteOf ds)
+bytes-are-digits ds below = pass-all isDigit (map byteOf ds) 48
+    (λ i h.
+    let within : i < length ds = rw length-map at h in
+    rw (List·getD-map byteOf ds i 0)
+    (simp (le-leb 48 (byteOf (getD ds i 0)) (omega arith), le-leb (byteOf (getD ds i 0)) 57 (omega (arith, below i within)))))
+
+-- the rules' last lines, once the first have passed
+module _ (count : ℕ) (symbol : List ℕ → List ℕ) (number : List ℕ) (room : ℕ) where
+  pub written-made : (ds : List ℕ) → rightNumber count number ≡ made ds → numberWritten count symbol number room ≡ laying (symbol ds) room
+  unfolding numberWritten
+  written-made ds e = rw e
+
+  pub written-refused : (f : Refusal) → rightNumber count number ≡ refused f → numberWritten count symbol number room ≡ refused f
+  unfolding numberWritten
+  written-refused f e = rw e
+
+module _ (scanned : Outcome (List ℕ)) (room : ℕ) where
+  pub read-made : (ds : List ℕ) → scanned ≡ made ds → isRight ds ≡ true → numberRead scanned room ≡ laying (map byteOf ds) room
+  unfolding numberRead
+  read-made ds e right = rw (e, right)
+
+  pub read-wrong : (ds : List ℕ) → scanned ≡ made ds → isRight ds ≡ false → numberRead scanned room ≡ refused CheckDigit
+  unfolding numberRead
+  read-wrong ds e wrong = rw (e, wrong)
+
+  pub read-refused : (f : Refusal) → scanned ≡ refused f → numberRead scanned room ≡ refused f
+  unfolding numberRead
+  read-refused f e = rw e
+
+-- of digits, reading refuses and makes what the test of the number and its bytes do
+pub read-as-written : (number : List ℕ) (room : ℕ) → firstNot isDigit number ≡ length number → numberRead (made (map valueOf number)) room ≡ numberWritten (length number) (map byteOf) number room
+unfolding numberRead numberWritten rightNumber
+read-as-written number room all = simp (eq-eqb (length number) (length number) refl, digits-made number all)
+    (must-then (isRight (map valueOf number)) CheckDigit (map valueOf number) (λ (ds : List ℕ). laying (map byteOf ds) room))
+
+-- Reading and drawing undo one another where the scan and the symbol do.
+module _ (count : ℕ) (symbol : List ℕ → List ℕ) (scanned : List ℕ → Outcome (List ℕ)) where
+  pub read-of-write : ((ds : List ℕ) → length ds ≡ count → Digits ds → scanned (symbol ds) ≡ made ds) → (number widths : List ℕ) (room room′ : ℕ) → numberWritten count symbol number room ≡ made widths → count ≤ room′ → numberRead (scanned widths) room′ ≡ made number
+  unfolding numberWritten
+  read-of-write back number widths room room′ e fits =
+      let w = bind-made (rightNumber count number) (λ (ds : List ℕ). laying (symbol ds) room) widths e in
+      let ds = w .0 in
+      let r = right-made count number ds (w .1) in
+      let drawn : symbol ds ≡ widths = made-of-laying (symbol ds) widths room (w .2) .1 in
+      let long : length ds ≡ count = ap length (r .values) ∙ length-map number valueOf ∙ r .counted in
+      let digits : Digits ds = subst Digits (sym (r .values)) (values-are-digits number (r .all)) in
+      let scan : scanned widths ≡ made ds = ap scanned (sym drawn) ∙ back ds long digits in
+      read-made (scanned widths) room′ ds scan (r .right)
+      ∙ laying-made (map byteOf ds) room′ (rw length-map (omega arith))
+      ∙ ap made (ap (map byteOf) (r .values) ∙ bytes-of-values number (r .all))
+
+  pub write-of-read : ((widths ds : List ℕ) → scanned widths ≡ made ds → (symbol ds ≡ widths) × (length ds ≡ count) × Digits ds) → (widths number : List ℕ) (room room′ : ℕ) → numberRead (scanned widths) room ≡ made number → length widths ≤ room′ → numberWritten count symbol number room′ ≡ made widths
+  unfolding numberRead
+  write-of-read back widths number room room′ e fits =
+      let s = bind-made (scanned widths) (λ (ds : List ℕ). must (isRight ds) CheckDigit >> laying (map byteOf ds) room) number e in
+      let ds = s .0 in
+      let m = must-made (isRight ds) CheckDigit (laying (map byteOf ds) room) number (s .2) in
+      let bytes : map byteOf ds ≡ number = made-of-laying (map byteOf ds) number room (m .1) .1 in
+      let b = back widths ds (s .1) in
+      let known : RightNumber count (map byteOf ds) ds = record { counted = length-map ds byteOf ∙ b .1; all = bytes-are-digits ds (b .2); values = sym (values-of-bytes ds); right = m .0 } in
+      written-made count symbol number room′ ds (ap (rightNumber count) (sym bytes) ∙ right-of-parts count (map byteOf ds) ds known)
+      ∙ laying-made (symbol ds) room′ (rw (b .0) fits)
+      ∙ ap made (b .0)
+
+  -- so no two lists are read as one number
+  pub one-list : ((widths ds : List ℕ) → scanned widths ≡ made ds → (symbol ds ≡ widths) × (length ds ≡ count) × Digits ds) → (widths widths′ number : List ℕ) (room room′ : ℕ) → numberRead (scanned widths) room ≡ made number → numberRead (scanned widths′) room′ ≡ made number → widths ≡ widths′
+  one-list back widths widths′ number room room′ e e′ =
+      let most = length widths + length widths′ in
+      made-same widths widths′
+      (sym (write-of-read back widths number room most e (omega arith)) ∙ write-of-read back widths′ number room′ most e′ (omega arith))

@@ -1,0 +1,9 @@
+-- Numbers as text.
+--
+--   lastOf, decimalOf        Decimal   the byte of a number's last digit; its digits, the fewest that hold it
+--   Puts                     Puts      bytes written at the front of a lent list, and their count answered
+--   isNumeral, numberFrom    Numeral   bytes that are a decimal numeral, and the number that they say
+--   numberIn                Numeral   the rule of reading a numeral that says at most a given number
+pub mod Decimal
+pub mod Puts
+pub mod Numeral
