@@ -7,5 +7,6 @@ pub mod FirstLaws
 pub mod Mapped
 pub mod Packed
 pub mod Remainders
+pub mod SumLaws
 pub mod WeighedLaws
 pub mod Tables

@@ -1,5 +1,5 @@
 -- Equally many bytes that are packed into the same number are the same: the remainder by 256 gives the first of them, the quotient the rest.
-use Prim.Native.Nat.{ℕ, zero, suc, _+_, _*_, _<_, suc-le-suc}
+use Prim.Native.Nat.{ℕ, suc, _<_, suc-le-suc}
 use mathlib.Core.Path.{_≡_, refl, ap₂}
 use mathlib.Core.List.{List, [], _∷_}
 use native.Mathlib.Nat.{suc-inj}

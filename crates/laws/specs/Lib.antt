@@ -2,9 +2,11 @@
 --
 --   firstNot   First     the place of the first element that fails a test
 --   packed     Packed    bytes as one number
+--   sum        Sum       the sum of a list
 --   weighed    Weighed   a sum in which each element has a weight by its distance from the right end
 --   Below      Below     every element of a list is below a bound
 pub mod First
 pub mod Below
 pub mod Packed
+pub mod Sum
 pub mod Weighed

@@ -3,7 +3,7 @@ use Prim.Native.Nat.{ℕ, _≤_, _<_}
 use mathlib.Core.Path.{_≡_, refl, sym, ap, _∙_, subst}
 use mathlib.Core.List.{List}
 use native.Mathlib.Omega.{arith}
-use lib.ListN.{length}
+use lib.ListN.{length, drop, length-append, length-drop}
 use lib.Dec.{leb}
 use borrow.Author.Tests.{le-leb, lt-leb, leb-true}
 use Rattle.refusal.specs.declared.Answer.{Answer}
@@ -44,3 +44,11 @@ module _ {A : Type 0} where
   made-of-laying xs ys room e =
       let m = must-made (leb (length xs) room) Room (made xs) ys e in
       (leb-true (length xs) room (m .0), made-same xs ys (m .1))
+
+  -- what is counted as written fits in what was lent
+  pub fills-within : (o : Outcome (List A)) (before : List A) (r : Answer) (after : List A) → Fills o before r after → length after ≡ length before → (n : ℕ) → r ≡ Done n → n ≤ length before
+  fills-within (made xs) before r after h kept n is =
+      let counted : n ≡ length xs = cc (h .answer, is) in
+      let whole = ap length (h .lent) ∙ length-append xs (drop (length xs) before) in
+      omega (arith, length-drop (length xs) before)
+  fills-within (refused f) before r after h kept n is = absurd (let z : _≡_ {A = ℕ} 0 1 = cc (h .answer, is) in omega arith)

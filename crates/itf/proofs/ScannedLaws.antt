@@ -1,0 +1,56 @@
+-- The rule of the scan, line by line: the count, the two ends, then what the pairs give.
+use Prim.Native.Nat.{ℕ}
+use mathlib.Core.Path.{_≡_, sym, ap, _∙_}
+use mathlib.Core.Bool.{true, false}
+use mathlib.Core.List.{List, [], _++_, append-nil}
+use native.Mathlib.Omega.{arith}
+use lib.ListN.{length, drop, drop-of-length-le}
+use lib.Dec.{eqb}
+use borrow.Author.Tests.{eq-eqb, ne-eqb, eqb-true}
+use Rattle.refusal.specs.declared.Answer.the-variants.{Done}
+use Rattle.refusal.specs.declared.Refusal.{Refusal}
+use Rattle.refusal.specs.declared.Refusal.the-variants.{Count, Guard}
+use Rattle.refusal.specs.Outcome.{made, refused}
+use Rattle.refusal.specs.Fills.{FillsOwn}
+use Rattle.refusal.proofs.OutcomeLaws.{made-same, must-made, bind-made}
+use Rattle.refusal.proofs.FillsLaws.{made-of-answer}
+use Rattle.patterns.specs.Patterns.{characters}
+use Rattle.patterns.proofs.CharacterLaws.{Within, drawn-of-characters}
+use Rattle.itf.specs.Tables.{pairs}
+use Rattle.itf.specs.Itf14.{unpaired, guarded14, scanned14}
+
+module _ (widths : List ℕ) where
+  pub scanned-count : (length widths ≡ 77 → ⊥) → scanned14 widths ≡ refused Count
+  unfolding scanned14
+  scanned-count ne = rw (ne-eqb (length widths) 77 ne)
+
+  module _ (e : length widths ≡ 77) where
+    pub scanned-guard : guarded14 widths ≡ false → scanned14 widths ≡ refused Guard
+    unfolding scanned14
+    scanned-guard g = rw (eq-eqb (length widths) 77 e, g)
+
+    pub scanned-refused : (f : Refusal) → guarded14 widths ≡ true → characters pairs 10 7 0 (drop 4 widths) ≡ refused f → scanned14 widths ≡ refused f
+    unfolding scanned14
+    scanned-refused f g o = rw (eq-eqb (length widths) 77 e, g, o)
+
+    pub scanned-made : (values : List ℕ) → guarded14 widths ≡ true → characters pairs 10 7 0 (drop 4 widths) ≡ made values → scanned14 widths ≡ made (unpaired values)
+    unfolding scanned14
+    scanned-made values g o = rw (eq-eqb (length widths) 77 e, g, o)
+
+  -- what is known of widths that passed
+  pub scanned-parts : (digits : List ℕ) → scanned14 widths ≡ made digits → (values : List ℕ) × (length widths ≡ 77) × (guarded14 widths ≡ true) × (characters pairs 10 7 0 (drop 4 widths) ≡ made values) × (digits ≡ unpaired values)
+  unfolding scanned14
+  scanned-parts digits o =
+      let a = must-made (eqb (length widths) 77) Count _ digits o in
+      let b = must-made (guarded14 widths) Guard _ digits (a .1) in
+      let s = bind-made (characters pairs 10 7 0 (drop 4 widths)) (λ (values : List ℕ). made (unpaired values)) digits (b .1) in
+      (s .0, eqb-true _ _ (a .0), b .0, s .1, sym (made-same _ _ (s .2)))
+
+-- the seven values that a scan has laid in a list of seven places
+pub scanned-values : (widths before after : List ℕ) (n : ℕ) → FillsOwn (characters pairs 10 7 0 widths) before (Done n) after → length before ≡ 7 → (characters pairs 10 7 0 widths ≡ made after) × (length after ≡ 7) × Within (length pairs) after
+scanned-values widths before after n fills seven =
+    let m = made-of-answer (characters pairs 10 7 0 widths) n (fills .answer) in
+    let d = drawn-of-characters pairs 10 7 0 widths (m .0) (m .1) in
+    let over : drop (length (m .0)) before ≡ [] = drop-of-length-le before {i = length (m .0)} (omega arith) in
+    let is : after ≡ m .0 = fills .lent (m .0) (m .1) ∙ ap (λ (l : List ℕ). m .0 ++ l) over ∙ append-nil (m .0) in
+    rw is (m .1, d .0, d .2)

@@ -1,0 +1,125 @@
+-- `itf::pair_values` meets its contract: the values found so far, before those of the pairs that are left, are what the rule makes; the
+-- first pair that matches nothing decides.
+use Prim.Native.Nat.{_+_, _-_, _*_, _≤_, _<_}
+use mathlib.Core.Path.{_≡_, sym, _∙_}
+use borrow.Author.Needs.{needs}
+use native.Mathlib.Omega.{arith}
+use lib.ListN.{length, take, length-take, length-drop, length-set}
+use Rattle.refusal.specs.declared.Refusal.the-variants.{Pattern}
+use Rattle.patterns.specs.Patterns.{characters}
+use Rattle.patterns.proofs.CharacterLaws.{prefixed, left}
+use Rattle.itf.specs.Tables.{pairs}
+use Rattle.itf.proofs.PairLaws.{length-pairs}
+use Rattle.itf.proofs.MatchLaws.{value-of-match}
+use Rattle.itf.proofs.ScanLaws.{own-filled, own-refused, scan-begins, scan-ends, scan-stops, scan-goes}
+use Rattle.itf.proofs.scanning.pair_values.Statement.{statement}
+use Rattle.itf.proofs.scanning.pair_values.Tie as tie
+
+abbrev Inv-loop : tie.InvT-loop
+Inv-loop widths values₀ i₀ values i =
+    (i ≤ 7)
+    × (length values ≡ 7)
+    × (characters pairs 10 7 0 widths ≡ prefixed (take i values) (left pairs 10 7 0 widths i))
+
+abbrev μ-loop : tie.MeasureT-loop
+μ-loop widths values₀ i₀ values i = 7 - i
+
+loop-holds : tie.Need-loop-holds Inv-loop μ-loop
+loop-holds c = (omega arith, omega arith, scan-begins (c .before .before .args .widths .now) (c .before .before .args .values .now))
+
+mul-at : tie.Need-mul-at Inv-loop μ-loop
+mul-at c = omega arith
+
+add-pair-value : tie.Need-add-pair-value Inv-loop μ-loop
+add-pair-value c = omega arith
+
+sub-pair-value : tie.Need-sub-pair-value Inv-loop μ-loop
+sub-pair-value c = omega arith
+
+part-pair-value-start : tie.Need-part-pair-value-start Inv-loop μ-loop
+part-pair-value-start c = omega arith
+
+part-pair-value-end : tie.Need-part-pair-value-end Inv-loop μ-loop
+part-pair-value-end c = omega arith
+
+pair-value-requires : tie.Need-pair-value-requires Inv-loop μ-loop
+pair-value-requires c κs = simp (length-take, length-drop) (omega arith)
+
+enum-known-value : tie.Need-enum-known-value Inv-loop μ-loop
+enum-known-value c = search needs
+
+enum-told : tie.Need-enum-told Inv-loop μ-loop
+enum-told c = search needs
+
+same-length : tie.Need-same-length Inv-loop μ-loop
+same-length c = omega arith
+
+returns : tie.Need-returns Inv-loop μ-loop
+returns c =
+    let args = c .before .before .before .before .before .before .before .before .args in
+    let loop = c .before .before .before .before .before .loop in
+    let found = c .before .before .pair-value in
+    own-refused _ _ _ (Pattern (loop .i))
+    (scan-stops (args .widths .now) (loop .values) (loop .i) (10 * loop .i + 10 - 10 * loop .i) (omega arith) (omega arith) (loop .inv .2) (sym (c .enum-told .given .1) ∙ found .ensures))
+
+cast-values : tie.Need-cast-values Inv-loop μ-loop
+cast-values c =
+    let found = c .before .before .before .pair-value in
+    let v = c .before .value .given .0 .0 in
+    let below : v < 100 = rw length-pairs at (value-of-match v _ (sym (c .before .value .given .1) ∙ found .ensures) .1) in
+    omega arith
+
+slice-write-values : tie.Need-slice-write-values Inv-loop μ-loop
+slice-write-values c = omega arith
+
+add-i : tie.Need-add-i Inv-loop μ-loop
+add-i c = omega arith
+
+loop-less : tie.Need-loop-less Inv-loop μ-loop
+loop-less c = omega arith
+
+loop-again : tie.Need-loop-again Inv-loop μ-loop
+loop-again c =
+    let args = c .before .before .before .before .before .before .before .before .before .args in
+    let loop = c .before .before .before .before .before .before .loop in
+    let found = c .before .before .before .pair-value in (
+      omega arith,
+      simp length-set (omega arith),
+      scan-goes (args .widths .now) (loop .values) (loop .i) (10 * loop .i + 10 - 10 * loop .i) (omega arith) (omega arith) (loop .inv .2)
+          (c .before .value .given .0 .0) (omega arith) (sym (c .before .value .given .1) ∙ found .ensures),
+    )
+
+same-length-2 : tie.Need-same-length-2 Inv-loop μ-loop
+same-length-2 c = omega arith
+
+returns-2 : tie.Need-returns-2 Inv-loop μ-loop
+returns-2 c =
+    let args = c .before .before .before .before .args in
+    let loop = c .before .loop in
+    let over : loop .i ≡ 7 = omega arith in
+    rw over (own-filled _ _ (loop .values) 7 (scan-ends (args .widths .now) (loop .values) (rw over at (loop .inv .2)) (omega arith)) (omega arith) (omega arith))
+
+pub pair-values-spec : {M : Type 1} → statement M
+pair-values-spec =
+    tie.close
+    (tie.spec
+    Inv-loop
+    μ-loop
+    loop-holds
+    mul-at
+    add-pair-value
+    sub-pair-value
+    part-pair-value-start
+    part-pair-value-end
+    pair-value-requires
+    enum-known-value
+    enum-told
+    same-length
+    returns
+    cast-values
+    slice-write-values
+    add-i
+    loop-less
+    loop-again
+    same-length-2
+    returns-2)
