@@ -1,0 +1,151 @@
+-- What the rule accepts is a message: each string that it finds is right and takes its bytes off the front, what closes it is there, and
+-- no identifier was used before.
+use Prim.Native.Nat.{ℕ, zero, suc, _≤_}
+use mathlib.Core.Path.{_≡_, refl, sym, ap, ap₂, _∙_, subst}
+use mathlib.Core.Bool.{Bool, true, false, cond, not, _&&_}
+use mathlib.Core.List.{List, [], _∷_, _++_, map, append-assoc, append-nil}
+use native.Mathlib.Omega.{arith}
+use lib.ListN.{length, drop}
+use lib.Dec.{eqb, leb}
+use borrow.Author.Tests.{eqb-true, eq-eqb, leb-true, not-true}
+use Rattle.laws.specs.First.{firstNot}
+use Rattle.laws.proofs.Booleans.{both-hold}
+use Rattle.refusal.specs.declared.Refusal.the-variants.{Count, Character, Repeated}
+use Rattle.refusal.specs.Outcome.{made}
+use Rattle.refusal.proofs.OutcomeLaws.{must-made, bind-made, made-same}
+use Rattle.elements.specs.declared.Element.{Element}
+use Rattle.elements.specs.Characters.{among, isMessageByte}
+use Rattle.elements.specs.Identifiers.{spelled}
+use Rattle.elements.specs.Strings.{stringAt, stringsFrom, parsed, tested}
+use Rattle.elements.specs.Messages.{ElementString, AllRight, right-none, right-more, Different, different-none, different-more, closing, joined, IsMessage, stringOf}
+use Rattle.elements.proofs.AmongLaws.{or-true, among-of-nil, among-more, among-append}
+use Rattle.elements.proofs.StringLaws.{string-found, next-within}
+use Rattle.elements.proofs.CutLaws.{content-is, right-string, begins, goes-on, at-last, closes}
+
+abbrev pub named : List ElementString → List ℕ
+named strings = map (λ s. s .identifier) strings
+
+pub joined-more : (s t : ElementString) (ts : List ElementString) → joined (s ∷ t ∷ ts) ≡ spelled (s .identifier) ++ s .content ++ closing (s .identifier) ++ joined (t ∷ ts)
+unfolding joined
+joined-more s t ts = refl
+
+-- what is known of the strings from a place on, after those whose identifiers are used
+record Walked (message : List ℕ) (place : ℕ) (used : List ℕ) (string : Element) (more : List Element) : Type 0 where
+  right : AllRight (map (stringOf message) (string ∷ more))
+  different : Different (map (stringOf message) (string ∷ more))
+  new : (u : ℕ) → among used u ≡ true → among (named (map (stringOf message) (string ∷ more))) u ≡ false
+  whole : drop place message ≡ joined (map (stringOf message) (string ∷ more))
+
+pub regroup : (a b c d : List ℕ) → a ++ (b ++ (c ++ d)) ≡ a ++ b ++ c ++ d
+regroup a b c d = sym (simp append-assoc)
+
+-- an identifier that is new is none of those used
+new-one : (used : List ℕ) (x u : ℕ) → among used x ≡ false → among used u ≡ true → eqb x u ≡ false
+new-one used x u fresh is = go (eqb x u) refl
+  where
+    go : (b : Bool) → eqb x u ≡ b → b ≡ false
+    go false e = refl
+    go true e = absurd (let same : x ≡ u = eqb-true x u e in let z : _≡_ {A = ℕ} 0 1 = cc in omega arith)
+
+one-used : (used : List ℕ) (x : ℕ) → among (used ++ (x ∷ [])) x ≡ true
+one-used used x = rw (among-append used (x ∷ []) x, among-more x [] x, eq-eqb x x refl) (or-true (among used x))
+
+still-used : (used : List ℕ) (x u : ℕ) → among used u ≡ true → among (used ++ (x ∷ [])) u ≡ true
+still-used used x u is = rw (among-append used (x ∷ []) u, is)
+
+module _ (message : List ℕ) (place : ℕ) (used : List ℕ) (string : Element) (within : place ≤ length message) (here : stringAt message place ≡ made string) (fresh : among used (string .identifier) ≡ false) where
+  abbrev x : ℕ
+  x = string .identifier
+
+  walked-last : string .last ≡ true → Walked message place used string []
+  unfolding joined
+  walked-last is =
+      let f = string-found message place string here in
+      record {
+        right = right-more (right-string message place string f) right-none;
+        different = different-more (among-of-nil x) different-none;
+        new = λ u used-u. rw (among-more x [] u, new-one used x u fresh used-u) (among-of-nil u);
+        whole =
+            begins message place string f
+            ∙ ap (λ (rest : List ℕ). spelled x ++ rest)
+            (goes-on message place string f ∙ ap₂ (λ (front rest : List ℕ). front ++ rest) (sym (content-is message place string f)) (at-last message place string f is) ∙ append-nil _);
+      }
+
+  walked-more : string .last ≡ false → (next : Element) (more : List Element) → Walked message (string .next) (used ++ (x ∷ [])) next more → Walked message place used string (next ∷ more)
+  walked-more goes next more w =
+      let f = string-found message place string here in
+      record {
+        right = right-more (right-string message place string f) (w .right);
+        different = different-more (w .new x (one-used used x)) (w .different);
+        new = λ u used-u. rw (among-more x _ u, new-one used x u fresh used-u) (w .new u (still-used used x u used-u));
+        whole =
+            begins message place string f
+            ∙ ap (λ (rest : List ℕ). spelled x ++ rest)
+            (goes-on message place string f
+            ∙ ap₂ (λ (front rest : List ℕ). front ++ rest) (sym (content-is message place string f))
+            (closes message place string f within goes ∙ ap (λ (rest : List ℕ). closing x ++ rest) (w .whole)))
+            ∙ regroup (spelled x) (stringOf message string .content) (closing x) (joined (map (stringOf message) (next ∷ more)))
+            ∙ sym (joined-more (stringOf message string) (stringOf message next) (map (stringOf message) more));
+      }
+
+-- the strings that the rule finds from a place on
+record Walk (message : List ℕ) (place : ℕ) (used : List ℕ) (elements : List Element) : Type 0 where
+  string : Element
+  more : List Element
+  split : elements ≡ string ∷ more
+  walked : Walked message place used string more
+
+walk : (k : ℕ) (message : List ℕ) (place : ℕ) (used : List ℕ) (elements : List Element) → place ≤ length message → stringsFrom k message place used ≡ made elements → Walk message place used elements
+unfolding stringsFrom
+walk zero message place used elements within e = absurd (let z : _≡_ {A = ℕ} 0 1 = cc in omega arith)
+walk (suc k) message place used elements within e =
+    let a = bind-made (stringAt message place) _ elements e in
+    let string = a .0 in
+    let m = must-made (not (among used (string .identifier))) (Repeated place) _ elements (a .2) in
+    let b = bind-made (cond (string .last) (made []) (stringsFrom k message (string .next) (used ++ (string .identifier ∷ [])))) _ elements (m .1) in
+    go string (a .1) (not-true _ (m .0)) (b .0) (sym (made-same _ _ (b .2))) (string .last) refl (b .1)
+    (λ goes. walk k message (string .next) (used ++ (string .identifier ∷ [])) (b .0) (next-within message place string within (a .1) goes .0))
+  where
+    go : (string : Element) → stringAt message place ≡ made string → among used (string .identifier) ≡ false → (rest : List Element) → elements ≡ string ∷ rest → (l : Bool) → string .last ≡ l
+        → cond l (made []) (stringsFrom k message (string .next) (used ++ (string .identifier ∷ []))) ≡ made rest
+        → (string .last ≡ false → stringsFrom k message (string .next) (used ++ (string .identifier ∷ [])) ≡ made rest → Walk message (string .next) (used ++ (string .identifier ∷ [])) rest)
+        → Walk message place used elements
+    go string here fresh rest split true l e later =
+        let none : rest ≡ [] = cc in
+        record { string = string; more = []; split = rw none at split; walked = walked-last message place used string within here fresh l }
+    go string here fresh rest split false l e later =
+        let w = later l e in
+        record {
+          string = string;
+          more = w .string ∷ w .more;
+          split = split ∙ ap (λ (es : List Element). string ∷ es) (w .split);
+          walked = walked-more message place used string within here fresh l (w .string) (w .more) (w .walked);
+        }
+
+pub message-of-parsed : (message : List ℕ) (elements : List Element) → 1 ≤ length message → length message ≤ 48 → parsed message ≡ made elements → IsMessage message (map (stringOf message) elements)
+unfolding parsed
+message-of-parsed message elements least most e =
+    let w = walk (suc (length message)) message 0 [] elements (omega arith) e in
+    subst (λ (es : List Element). IsMessage message (map (stringOf message) es)) (sym (w .split))
+    (record { least = least; most = most; right = w .walked .right; different = w .walked .different; whole = w .walked .whole })
+
+-- what the test of a whole message makes, read backwards
+pub record Accepted (message : List ℕ) (elements : List Element) : Type 0 where
+  pub least : 1 ≤ length message
+  pub most : length message ≤ 48
+  pub bytes : firstNot isMessageByte message ≡ length message
+  pub strings : parsed message ≡ made elements
+
+pub tested-made : (message : List ℕ) (elements : List Element) → tested message ≡ made elements → Accepted message elements
+unfolding tested
+tested-made message elements e =
+    let a = must-made (leb 1 (length message) && leb (length message) 48) Count _ elements e in
+    let sizes = both-hold (leb 1 (length message)) (leb (length message) 48) (a .0) in
+    let b = must-made (eqb (firstNot isMessageByte message) (length message)) (Character (firstNot isMessageByte message)) (parsed message) elements (a .1) in
+    record { least = leb-true _ _ (sizes .0); most = leb-true _ _ (sizes .1); bytes = eqb-true _ _ (b .0); strings = b .1 }
+
+-- Theorem 4 of the design, from left to right: what is accepted is a message, and the strings found are its strings.
+pub accepted-is-message : (message : List ℕ) (elements : List Element) → tested message ≡ made elements → IsMessage message (map (stringOf message) elements)
+accepted-is-message message elements e =
+    let a = tested-made message elements e in
+    message-of-parsed message elements (a .least) (a .most) (a .strings)

@@ -1,0 +1,130 @@
+-- Right data has no separator in it and no byte that a message can't have; so the bytes of strings that are joined are a message's, and
+-- data runs to the separator that was put after it, or to the end.
+use Prim.Native.Nat.{ℕ, zero, suc, _≤_}
+use mathlib.Core.Path.{_≡_, refl, sym, ap}
+use mathlib.Core.Bool.{Bool, true, false, cond, not, _&&_}
+use mathlib.Core.List.{List, [], _∷_, _++_}
+use mathlib.Core.Option.{some}
+use native.Mathlib.Nat.{suc-inj}
+use native.Mathlib.Omega.{arith}
+use lib.ListN.{length, take}
+use lib.Seq.{take-all, take-at}
+use lib.Dec.{eqb, leb}
+use borrow.Author.Tests.{eqb-true, leb-true}
+use Rattle.laws.specs.First.{firstNot}
+use Rattle.laws.proofs.Booleans.{both-hold}
+use Rattle.laws.proofs.FirstLaws.{all-pass, pass-all}
+use Rattle.digits.specs.Digit.{isDigit}
+use Rattle.digits.proofs.DigitLaws.{digit-range}
+use Rattle.elements.specs.declared.identifiers.Content.{Content}
+use Rattle.elements.specs.declared.identifiers.Content.the-variants.{DigitsWithCheck, Date, Digits, Text}
+use Rattle.elements.specs.declared.identifiers.Kind.{Kind}
+use Rattle.elements.specs.Characters.{placeIn, eightyTwo, isOf82, separator, toSeparator, isMessageByte}
+use Rattle.elements.specs.Data.{allPass, pairAt, isDate, isNumber, passes, rightData}
+use Rattle.elements.specs.Identifiers.{table, kindOf}
+use Rattle.elements.specs.Strings.{dataOf}
+use Rattle.elements.proofs.AmongLaws.{in-run}
+use Rattle.elements.proofs.ListedLaws.{allRows, kind-passes}
+
+-- where each element that passes one test passes another, lists do
+pub pass-also : (p q : ℕ → Bool) → ((b : ℕ) → p b ≡ true → q b ≡ true) → (xs : List ℕ) → firstNot p xs ≡ length xs → firstNot q xs ≡ length xs
+pass-also p q also xs e = pass-all q xs 0 (λ i h. also _ (all-pass p xs e i 0 h))
+
+pub pass-append : (p : ℕ → Bool) (xs ys : List ℕ) → firstNot p xs ≡ length xs → firstNot p ys ≡ length ys → firstNot p (xs ++ ys) ≡ length (xs ++ ys)
+unfolding firstNot
+pass-append p [] ys e d = d
+pass-append p (x ∷ xs) ys e d = go (p x) e (λ e′. pass-append p xs ys e′ d)
+  where
+    go : (b : Bool) → cond b (suc (firstNot p xs)) zero ≡ suc (length xs) → (firstNot p xs ≡ length xs → firstNot p (xs ++ ys) ≡ length (xs ++ ys)) → cond b (suc (firstNot p (xs ++ ys))) zero ≡ suc (length (xs ++ ys))
+    go true e later = ap suc (later (suc-inj e))
+    go false e later = absurd (omega arith)
+
+-- the first element that fails, after those that pass
+pub first-at-seam : (p : ℕ → Bool) (xs : List ℕ) (y : ℕ) (ys : List ℕ) → firstNot p xs ≡ length xs → p y ≡ false → firstNot p (xs ++ y ∷ ys) ≡ length xs
+unfolding firstNot
+first-at-seam p [] y ys e d = rw d
+first-at-seam p (x ∷ xs) y ys e d = go (p x) e (λ e′. first-at-seam p xs y ys e′ d)
+  where
+    go : (b : Bool) → cond b (suc (firstNot p xs)) zero ≡ suc (length xs) → (firstNot p xs ≡ length xs → firstNot p (xs ++ y ∷ ys) ≡ length xs) → cond b (suc (firstNot p (xs ++ y ∷ ys))) zero ≡ suc (length xs)
+    go true e later = ap suc (later (suc-inj e))
+    go false e later = absurd (omega arith)
+
+pub digit-of-82 : (b : ℕ) → isDigit b ≡ true → isOf82 b ≡ true
+unfolding isOf82 eightyTwo placeIn firstNot
+digit-of-82 b e = let range = digit-range b e in in-run isOf82 48 10 true tt b (omega arith) (omega arith)
+
+pub message-byte : (b : ℕ) → isOf82 b ≡ true → isMessageByte b ≡ true
+unfolding isMessageByte
+message-byte b e = rw e
+
+pub separator-byte : isMessageByte separator ≡ true
+unfolding isMessageByte isOf82 eightyTwo placeIn firstNot
+separator-byte = refl
+
+separator-not : isOf82 separator ≡ false
+unfolding isOf82 eightyTwo placeIn firstNot
+separator-not = refl
+
+no-separator : (b : ℕ) → isOf82 b ≡ true → not (eqb b separator) ≡ true
+no-separator b e = go (eqb b separator) refl
+  where
+    go : (t : Bool) → eqb b separator ≡ t → not t ≡ true
+    go false p = refl
+    go true p = absurd (let is : b ≡ separator = eqb-true b separator p in let no = separator-not in let z : _≡_ {A = ℕ} 0 1 = cc in omega arith)
+
+pub passes-of-82 : (content : Content) (bytes : List ℕ) → passes content bytes ≡ true → firstNot isOf82 bytes ≡ length bytes
+unfolding passes isNumber isDate
+passes-of-82 DigitsWithCheck bytes e = pass-also isDigit isOf82 digit-of-82 bytes (eqb-true _ _ (both-hold (allPass isDigit bytes) _ e .0))
+passes-of-82 Date bytes e =
+    let a = both-hold (allPass isDigit bytes && leb 1 (pairAt bytes 2) && leb (pairAt bytes 2) 12) (leb (pairAt bytes 4) 31) e in
+    let b = both-hold (allPass isDigit bytes && leb 1 (pairAt bytes 2)) (leb (pairAt bytes 2) 12) (a .0) in
+    pass-also isDigit isOf82 digit-of-82 bytes (eqb-true _ _ (both-hold (allPass isDigit bytes) (leb 1 (pairAt bytes 2)) (b .0) .0))
+passes-of-82 Digits bytes e = pass-also isDigit isOf82 digit-of-82 bytes (eqb-true _ _ e)
+passes-of-82 Text bytes e = eqb-true _ _ e
+
+-- what is known of right data
+pub record Sound (kind : Kind) (bytes : List ℕ) : Type 0 where
+  pub least : kind .least ≤ length bytes
+  pub most : length bytes ≤ kind .most
+  pub of-82 : firstNot isOf82 bytes ≡ length bytes
+
+pub sound : (kind : Kind) (bytes : List ℕ) → rightData kind bytes ≡ true → Sound kind bytes
+unfolding rightData
+sound kind bytes e =
+    let a = both-hold (leb (kind .least) (length bytes) && leb (length bytes) (kind .most)) (passes (kind .content) bytes) e in
+    let b = both-hold (leb (kind .least) (length bytes)) (leb (length bytes) (kind .most)) (a .0) in
+    record { least = leb-true _ _ (b .0); most = leb-true _ _ (b .1); of-82 = passes-of-82 (kind .content) bytes (a .1) }
+
+-- a predefined length is one length
+oneLength : Kind → Bool
+oneLength kind = cond (kind .predefined) (eqb (kind .least) (kind .most)) true
+
+all-one : allRows oneLength table ≡ true
+unfolding oneLength table
+all-one = refl
+
+pub one-length : (x : ℕ) (kind : Kind) → kindOf x ≡ some kind → kind .predefined ≡ true → kind .least ≡ kind .most
+unfolding kindOf oneLength
+one-length x kind e is = eqb-true _ _ (rw is at (kind-passes oneLength table all-one x kind e))
+
+module _ (kind : Kind) (bytes : List ℕ) (s : Sound kind bytes) where
+  plain : firstNot (λ (b : ℕ). not (eqb b separator)) bytes ≡ length bytes
+  plain = pass-also isOf82 (λ (b : ℕ). not (eqb b separator)) no-separator bytes (s .of-82)
+
+  -- data that ends the message
+  pub data-at-end : dataOf kind bytes ≡ bytes
+  unfolding dataOf toSeparator
+  data-at-end = go (kind .predefined)
+    where
+      go : (p : Bool) → take (cond p (kind .most) (toSeparator bytes)) bytes ≡ bytes
+      go true = take-all (kind .most) bytes (s .most)
+      go false = take-all (toSeparator bytes) bytes (omega (arith, plain))
+
+  -- data that something follows
+  pub data-before : (x : ℕ) → kindOf x ≡ some kind → (more : List ℕ) → dataOf kind (bytes ++ (cond (kind .predefined) [] (separator ∷ []) ++ more)) ≡ bytes
+  unfolding dataOf toSeparator
+  data-before x is more = go (kind .predefined) refl
+    where
+      go : (p : Bool) → kind .predefined ≡ p → take (cond p (kind .most) (toSeparator (bytes ++ (cond p [] (separator ∷ []) ++ more)))) (bytes ++ (cond p [] (separator ∷ []) ++ more)) ≡ bytes
+      go true e = take-at bytes more (kind .most) (let one = one-length x kind is e in omega (arith, s .least, s .most))
+      go false e = take-at bytes (separator ∷ more) _ (sym (first-at-seam (λ (b : ℕ). not (eqb b separator)) bytes separator more plain refl))

@@ -1,0 +1,170 @@
+-- `elements::string_at` meets its contract: each step finds what a line of the rule asks: the row, where the data ends, whether it is right; so each
+-- `return` is what the lines come to.
+use Prim.Native.Nat.{ℕ, _+_, _-_, _≤_}
+use mathlib.Core.Path.{_≡_, sym, ap, _∙_}
+use mathlib.Core.List.{List}
+use mathlib.Core.Option.{some}
+use native.Mathlib.Nat.{add-sub-cancel-left}
+use native.Mathlib.Omega.{arith}
+use borrow.Author.Needs.{needs}
+use borrow.Author.Tests.{not-true, not-false}
+use lib.ListN.{length, take, drop, length-drop}
+use Rattle.elements.specs.declared.Found.the-variants.{String}
+use Rattle.elements.specs.declared.identifiers.Kind.{Kind}
+use Rattle.elements.specs.Identifiers.{kindOf, spelled, identifierIn}
+use Rattle.elements.specs.Data.{rightData}
+use Rattle.elements.specs.Strings.{dataOf}
+use Rattle.elements.specs.Calls.{rowAt, foundOf}
+use Rattle.elements.proofs.DataLaws.{sized-if-listed}
+use Rattle.elements.proofs.StringLaws.{data-within, data-part, row-listed, rest-of, string-unlisted, begin-within, string-wrong, string-right, element-is}
+use Rattle.elements.proofs.string_at.Statement.{statement}
+use Rattle.elements.proofs.string_at.Tie as tie
+
+sub-row-at : tie.Need-sub-row-at
+sub-row-at c = search needs
+
+part-row-at-start : tie.Need-part-row-at-start
+part-row-at-start c = search needs
+
+part-row-at-end : tie.Need-part-row-at-end
+part-row-at-end c = search needs
+
+row-at-requires : tie.Need-row-at-requires
+row-at-requires c κs = search needs
+
+enum-known-identifier : tie.Need-enum-known-identifier
+enum-known-identifier c = search needs
+
+enum-told : tie.Need-enum-told
+enum-told c = search needs
+
+returns : tie.Need-returns
+returns c =
+    let start = c .before .before .before .before .before in
+    let message = start .args .message .now in
+    let at = start .args .at in
+    rw (string-unlisted message at (ap rowAt (sym (rest-of message at)) ∙ sym (c .before .before .row-at .ensures) ∙ c .enum-told .given .1))
+
+digits-of-requires : tie.Need-digits-of-requires
+digits-of-requires c κs = search needs
+
+-- the identifier and its kind are known
+module _ (c : tie.After-digits-of) where
+  abbrev message : List ℕ
+  message = c .before .before .before .before .before .before .before .args .message .now
+
+  abbrev at : ℕ
+  at = c .before .before .before .before .before .before .before .args .at
+
+  abbrev x : ℕ
+  x = c .before .before .identifier .given .0 .0
+
+  abbrev kind : Kind
+  kind = c .before .before .identifier .given .0 .1 .0
+
+  abbrev begin : ℕ
+  begin = at + c .digits-of .result
+
+  found : (identifierIn (drop at message) ≡ some x) × (kindOf x ≡ some kind)
+  found = row-listed (drop at message) x kind (ap rowAt (sym (rest-of message at)) ∙ sym (c .before .before .before .before .row-at .ensures) ∙ c .before .before .identifier .given .1)
+
+  begin-is : begin ≡ at + length (spelled x)
+  begin-is = ap (λ (n : ℕ). at + n) (c .digits-of .ensures)
+
+  inside : begin ≤ length message
+  inside = omega (arith, begin-is, begin-within message at x kind (found .0) (found .1) (c .before .before .before .before .before .before .before .pre))
+
+add-begin : tie.Need-add-begin
+add-begin c = omega (arith, inside c)
+
+sub-data-length : tie.Need-sub-data-length
+sub-data-length c = inside c
+
+part-data-length-start : tie.Need-part-data-length-start
+part-data-length-start c = inside c
+
+part-data-length-end : tie.Need-part-data-length-end
+part-data-length-end c = search needs
+
+data-length-requires : tie.Need-data-length-requires
+data-length-requires c κs = search needs
+
+-- the data's end is known
+module _ (c : tie.After-data-length) where
+  abbrev before : tie.After-digits-of
+  before = c .before .before
+
+  count-is : c .data-length .result ≡ length (dataOf (kind before) (drop (begin before) (message before)))
+  count-is = c .data-length .ensures ∙ ap (λ (bytes : List ℕ). length (dataOf (kind before) bytes)) (rest-of (message before) (begin before))
+
+  end-inside : begin before + c .data-length .result ≤ length (message before)
+  end-inside = omega (arith, inside before, count-is, data-within (kind before) (drop (begin before) (message before)), length-drop (begin before) (message before))
+
+  part-is : take (begin before + c .data-length .result - begin before) (drop (begin before) (message before)) ≡ dataOf (kind before) (drop (begin before) (message before))
+  part-is =
+      ap (λ (n : ℕ). take n (drop (begin before) (message before))) (add-sub-cancel-left (begin before) (c .data-length .result) ∙ count-is)
+      ∙ data-part (kind before) (drop (begin before) (message before))
+
+add-end : tie.Need-add-end
+add-end c = omega (arith, end-inside c)
+
+sub-right-data : tie.Need-sub-right-data
+sub-right-data c = search needs
+
+part-right-data-start : tie.Need-part-right-data-start
+part-right-data-start c = search needs
+
+part-right-data-end : tie.Need-part-right-data-end
+part-right-data-end c = end-inside c
+
+right-data-requires : tie.Need-right-data-requires
+right-data-requires c κs = sized-if-listed (x (c .before .before .before)) (kind (c .before .before .before)) (found (c .before .before .before) .1)
+
+-- whether the data is right is known
+judged : (c : tie.After-right-data) → c .right-data .result ≡ rightData (kind (c .before .before .before .before)) (dataOf (kind (c .before .before .before .before)) (drop (begin (c .before .before .before .before)) (message (c .before .before .before .before))))
+judged c = c .right-data .ensures ∙ ap (rightData (kind (c .before .before .before .before))) (part-is (c .before .before))
+
+returns-2 : tie.Need-returns-2
+returns-2 c =
+    let b = c .before .before .before .before .before in
+    rw (string-wrong (message b) (at b) (x b) (kind b) (found b .0) (found b .1) (begin b) (begin-is b) (sym (judged (c .before)) ∙ not-true _ (c .if1 .taken)))
+
+sub-t14 : tie.Need-sub-t14
+sub-t14 c = search needs
+
+next-after-requires : tie.Need-next-after-requires
+next-after-requires c κs = omega (arith, end-inside (c .before .before .before))
+
+returns-3 : tie.Need-returns-3
+returns-3 c =
+    let d = c .before .before .before .before in
+    let b = d .before .before in
+    ap String (element-is (message b) (x b) (kind b) (begin b) (d .data-length .result) (c .next-after .result) (count-is d) (c .next-after .ensures))
+    ∙ sym (ap foundOf (string-right (message b) (at b) (x b) (kind b) (found b .0) (found b .1) (begin b) (begin-is b) (sym (judged (c .before .before)) ∙ not-false _ (c .before .if1 .left))))
+
+pub string-at-spec : {M : Type 1} → statement M
+string-at-spec =
+    tie.close
+    (tie.spec
+    sub-row-at
+    part-row-at-start
+    part-row-at-end
+    row-at-requires
+    enum-known-identifier
+    enum-told
+    returns
+    digits-of-requires
+    add-begin
+    sub-data-length
+    part-data-length-start
+    part-data-length-end
+    data-length-requires
+    add-end
+    sub-right-data
+    part-right-data-start
+    part-right-data-end
+    right-data-requires
+    returns-2
+    sub-t14
+    next-after-requires
+    returns-3)

@@ -1,0 +1,48 @@
+-- `elements::test` meets its contract: the tests that led to each `return` are those of the rule's lines.
+use Prim.Native.Nat.{ℕ}
+use mathlib.Core.Path.{_≡_, ap}
+use native.Mathlib.Omega.{arith}
+use borrow.Author.Needs.{needs}
+use borrow.Author.Tests.{le-leb, lt-leb, eq-eqb, ne-eqb}
+use lib.ListN.{length}
+use Rattle.laws.specs.First.{firstNot}
+use Rattle.laws.proofs.FirstLaws.{first-within}
+use Rattle.refusal.specs.declared.Answer.the-variants.{Refused}
+use Rattle.refusal.specs.declared.Refusal.the-variants.{Character}
+use Rattle.elements.specs.Characters.{isMessageByte}
+use Rattle.elements.specs.Strings.{tested}
+use Rattle.elements.proofs.test.Statement.{statement}
+use Rattle.elements.proofs.test.Tie as tie
+
+returns : tie.Need-returns
+unfolding tested
+returns c = simp (lt-leb _ _ (c .if1 .taken))
+
+returns-2 : tie.Need-returns-2
+unfolding tested
+returns-2 c = simp (le-leb _ _ (c .before .if1 .left), lt-leb _ _ (c .if2 .taken))
+
+first-bad-requires : tie.Need-first-bad-requires
+first-bad-requires c κs = search needs
+
+returns-3 : tie.Need-returns-3
+unfolding tested
+returns-3 c =
+    let message = c .before .before .before .before .before .args .message .now in
+    let place : c .before .first-bad .result ≡ firstNot isMessageByte message = c .before .first-bad .ensures in
+    simp (le-leb 1 (length message) (omega arith), le-leb (length message) 48 (omega arith), ne-eqb (firstNot isMessageByte message) (length message) (omega arith))
+    (ap (λ (p : ℕ). Refused (Character p)) place)
+
+count-requires : tie.Need-count-requires
+count-requires c κs = omega arith
+
+returns-4 : tie.Need-returns-4
+unfolding tested
+returns-4 c =
+    let message = c .before .before .before .before .before .before .args .message .now in
+    let all : firstNot isMessageByte message ≡ length message = omega (arith, c .before .before .first-bad .ensures, first-within isMessageByte message) in
+    simp (le-leb 1 (length message) (omega arith), le-leb (length message) 48 (omega arith), eq-eqb (firstNot isMessageByte message) (length message) all) (c .count .ensures)
+
+pub test-spec : {M : Type 1} → statement M
+test-spec =
+    tie.close (tie.spec returns returns-2 first-bad-requires returns-3 count-requires returns-4)

@@ -1,0 +1,91 @@
+// The bytes of a message.
+ghost use mathlib.Core.Path.{_≡_};
+ghost use Rattle.laws.specs.First.{firstNot};
+ghost use Rattle.elements.specs.Characters.{isOf82, isMessageByte, toSeparator};
+
+pub const SEPARATOR: u8 = 29;
+
+// Whether a byte is one of the 82 characters.
+pub fn is_of_82(byte: u8) -> bool
+    ensures { λ r. ⌜ r ≡ isOf82 byte ⌝ }
+{
+    if byte < b'!' {
+        return false;
+    }
+    if byte <= b'"' {
+        return true;
+    }
+    if byte < b'%' {
+        return false;
+    }
+    if byte <= b'?' {
+        return true;
+    }
+    if byte < b'A' {
+        return false;
+    }
+    if byte <= b'Z' {
+        return true;
+    }
+    if byte < b'_' {
+        return false;
+    }
+    if byte == b'_' {
+        return true;
+    }
+    if byte < b'a' {
+        return false;
+    }
+    byte <= b'z'
+}
+
+fn is_message_byte(byte: u8) -> bool
+    ensures { λ r. ⌜ r ≡ isMessageByte byte ⌝ }
+{
+    if is_of_82(byte) {
+        return true;
+    }
+    byte == SEPARATOR
+}
+
+// The place of the first byte that no message has, or the count of bytes where there is none.
+pub fn first_bad(message: &[u8]) -> usize
+    ensures { λ r. ⌜ r ≡ firstNot isMessageByte (now (message .entry)) ⌝ }
+{
+    let mut i = 0;
+    while i < message.len() {
+        if !is_message_byte(message[i]) {
+            return i;
+        }
+        i += 1;
+    }
+    i
+}
+
+// The place of the first byte that is none of the 82, likewise.
+pub fn first_outside(bytes: &[u8]) -> usize
+    ensures { λ r. ⌜ r ≡ firstNot isOf82 (now (bytes .entry)) ⌝ }
+{
+    let mut i = 0;
+    while i < bytes.len() {
+        if !is_of_82(bytes[i]) {
+            return i;
+        }
+        i += 1;
+    }
+    i
+}
+
+// The place of the first separator, likewise.
+pub fn first_separator(bytes: &[u8]) -> usize
+    ensures { λ r. ⌜ r ≡ toSeparator (now (bytes .entry)) ⌝ }
+{
+    let mut i = 0;
+    while i < bytes.len() {
+        if bytes[i] == SEPARATOR {
+            return i;
+        }
+        i += 1;
+    }
+    i
+}

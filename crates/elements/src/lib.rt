@@ -1,0 +1,71 @@
+// Element strings: one at a time, and the test of a whole message.
+ghost use mathlib.Core.Path.{_≡_};
+ghost use Prim.Native.Nat.{_≤_};
+ghost use lib.ListN.{length};
+ghost use Rattle.refusal.specs.Fills.{answerOf};
+ghost use Rattle.elements.specs.Strings.{stringAt, tested};
+ghost use Rattle.elements.specs.Calls.{foundOf};
+use crate::identifiers::Row;
+use refusal::Answer;
+use refusal::Refusal;
+
+mod characters;
+mod contents;
+mod identifiers;
+mod messages;
+mod strings;
+
+// An element string as it stands in a message: the identifier as a number, where its data begins and how long it is; where the next
+// string must begin, unless this is the last.
+pub struct Element {
+    pub identifier: usize,
+    pub begin: usize,
+    pub length: usize,
+    pub next: usize,
+    pub last: bool,
+}
+
+// What stands where an element string must begin.
+pub enum Found {
+    String(Element),
+    Refused(Refusal),
+}
+
+// Tests a whole message: the count of its element strings, or refusal 1, 2, 9, 10 or 11.
+pub fn test(message: &[u8]) -> Answer
+    ensures { λ r. ⌜ r ≡ answerOf (tested (now (message .entry))) ⌝ }
+{
+    if message.len() < 1 {
+        return Answer::Refused(Refusal::Count);
+    }
+    if 48 < message.len() {
+        return Answer::Refused(Refusal::Count);
+    }
+    let place = characters::first_bad(message);
+    if place < message.len() {
+        return Answer::Refused(Refusal::Character(place));
+    }
+    messages::count(message)
+}
+
+// The element string that must begin at a place, or refusal 9 or 10.
+pub fn string_at(message: &[u8], at: usize) -> Found
+    requires { ⌜ at ≤ length (now message) ⌝ }
+    ensures { λ r. ⌜ r ≡ foundOf (stringAt (now (message .entry)) at) ⌝ }
+{
+    let Row::Listed(identifier, kind) = identifiers::row_at(&message[at..]) else {
+        return Found::Refused(Refusal::Identifier(at));
+    };
+    let begin = at + identifiers::digits_of(identifier);
+    let end = begin + strings::data_length(kind, &message[begin..]);
+    if !contents::right_data(kind, &message[begin..end]) {
+        return Found::Refused(Refusal::Data(at));
+    }
+    Found::String(Element {
+        identifier,
+        begin,
+        length: end - begin,
+        next: strings::next_after(kind, end),
+        last: end == message.len(),
+    })
+}
