@@ -5,38 +5,22 @@ ghost use Rattle.elements.specs.Characters.{isOf82, isMessageByte, toSep
 
 pub const SEPARATOR: u8 = 29;
 
+// A bit for each byte: whether it is one of the 82. The bytes below 64, and those from 64 to 127.
+const LOW: u64 = 0xffff_ffe6_0000_0000;
+
+const HIGH: u64 = 0x07ff_fffe_87ff_fffe;
+
 // Whether a byte is one of the 82 characters.
 pub fn is_of_82(byte: u8) -> bool
     ensures { λ r. ⌜ r ≡ isOf82 byte ⌝ }
 {
-    if byte < b'!' {
-        return false;
+    if byte < 64 {
+        return (LOW >> byte) % 2 == 1;
     }
-    if byte <= b'"' {
-        return true;
+    if byte < 128 {
+        return (HIGH >> (byte - 64)) % 2 == 1;
     }
-    if byte < b'%' {
-        return false;
-    }
-    if byte <= b'?' {
-        return true;
-    }
-    if byte < b'A' {
-        return false;
-    }
-    if byte <= b'Z' {
-        return true;
-    }
-    if byte < b'_' {
-        return false;
-    }
-    if byte == b'_' {
-        return true;
-    }
-    if byte < b'a' {
-        return false;
-    }
-    byte <= b'z'
+    false
 }
 
 fn is_message_byte(byte: u8) -> bool

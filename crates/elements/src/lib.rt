@@ -9,7 +9,7 @@ use crate::identifiers::Row;
 use refusal::Answer;
 use refusal::Refusal;
 
-mod characters;
+pub mod characters;
 mod contents;
 mod identifiers;
 mod messages;

@@ -1,0 +1,10 @@
+pub mod Arms
+pub mod PatternLaws
+pub mod PlacedLaws
+pub mod CheckLaws
+pub mod Theorems
+pub mod ReaderLaws
+pub mod PutsLaws
+pub mod StepLaws
+pub mod DecodedLaws
+pub mod MatchingLaws

@@ -1,0 +1,26 @@
+-- `code128::characters::candidate_of` meets its contract: the candidate is one byte of the eight that are looked up.
+use Prim.Native.Nat.{ℕ, _/_, _%_, _*_, _^_}
+use mathlib.Core.Path.{ap, _∙_}
+use native.Mathlib.Omega.{arith}
+use borrow.Author.Needs.{needs}
+use Rattle.code128.proofs.MatchingLaws.{candidate-below, candidate-of-eight}
+use Rattle.code128.proofs.characters.candidate_of.Statement.{statement}
+use Rattle.code128.proofs.characters.candidate_of.Tie as tie
+
+eight-of-requires : tie.Need-eight-of-requires
+eight-of-requires c κs = search needs
+
+mul-result : tie.Need-mul-result
+mul-result c = search needs
+
+shr-result : tie.Need-shr-result
+shr-result c = search needs
+
+returns : tie.Need-returns
+returns c =
+    let key = c .before .args .key in
+    let is = ap (λ (eight : ℕ). eight / 2 ^ (8 * (key % 8)) % 256) (c .eight-of .ensures) ∙ candidate-of-eight key (omega arith) in
+    (is, rw is (candidate-below key))
+
+pub candidate-of-spec : {M : Type 1} → statement M
+candidate-of-spec = tie.close (tie.spec eight-of-requires mul-result shr-result returns)

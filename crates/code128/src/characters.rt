@@ -1,0 +1,85 @@
+// The symbol characters: a value's pattern, and the value of six widths.
+ghost use mathlib.Core.Path.{_≡_};
+ghost use mathlib.Core.List.{[]};
+ghost use Prim.Native.Nat.{_<_, _≤_};
+ghost use lib.ListN.{length, getD, take};
+ghost use Rattle.laws.specs.Packed.{packed};
+ghost use Rattle.patterns.specs.Patterns.{valueIn};
+ghost use Rattle.code128.specs.Characters.{patterns};
+ghost use Rattle.code128.specs.Matching.{matchOf, candidateOf};
+use crate::tables;
+
+// The value of a character, 0 to 105, or that its widths are no pattern.
+pub enum Match {
+    Value(usize),
+    Nothing,
+}
+
+// The stop has seven widths; its first six are no value's pattern.
+pub const STOP: [u8; 7] = [2, 3, 3, 1, 1, 1, 2];
+
+pub fn pattern_of(value: usize) -> [u8; 6]
+    requires { ⌜ value < 106 ⌝ }
+    ensures { λ r. ⌜ r ≡ getD patterns value [] ⌝ }
+{
+    let widths = tables::packed_of(value);
+    [
+        (widths % 256) as u8,
+        (widths / 0x100 % 256) as u8,
+        (widths / 0x1_0000 % 256) as u8,
+        (widths / 0x100_0000 % 256) as u8,
+        (widths / 0x1_0000_0000 % 256) as u8,
+        (widths / 0x100_0000_0000 % 256) as u8,
+    ]
+}
+
+// Writes a value's pattern over the six places that are lent.
+pub fn put_pattern(value: usize, to: &mut [u8])
+    requires { ⌜ value < 106 ⌝ }
+    requires { ⌜ length (now to) ≡ 6 ⌝ }
+    ensures { λ _. ⌜ now (to .exit) ≡ getD patterns value [] ⌝ }
+{
+    let widths = pattern_of(value);
+    refusal::lay(&widths, to);
+}
+
+// The value of the first six widths, judged on their own. Only one pattern can be theirs: its value is looked up, and the widths are
+// compared with it, all six as one number.
+pub fn value_of(part: &[u8]) -> Match
+    requires { ⌜ 6 ≤ length (now part) ⌝ }
+    ensures { λ r. ⌜ r ≡ matchOf (valueIn patterns (take 6 (now (part .entry)))) ⌝ }
+{
+    let widths = packed_six(part);
+    let candidate = candidate_of(widths % 397);
+    if widths == tables::packed_of(candidate) {
+        Match::Value(candidate)
+    } else {
+        Match::Nothing
+    }
+}
+
+// The one value whose pattern leaves the remainder.
+fn candidate_of(key: u64) -> usize
+    requires { ⌜ key < 397 ⌝ }
+    ensures { λ r. ⌜ r ≡ candidateOf key ⌝ }
+    ensures { λ r. ⌜ r < 106 ⌝ }
+{
+    let eight = tables::eight_of(key / 8);
+    ((eight >> (8 * (key % 8))) % 256) as usize
+}
+
+fn packed_six(part: &[u8]) -> u64
+    requires { ⌜ 6 ≤ length (now part) ⌝ }
+    ensures { λ r. ⌜ r ≡ packed (take 6 (now (part .entry))) ⌝ }
+{
+    let last = wide(part[4]) + 256 * wide(part[5]);
+    let middle = wide(part[2]) + 256 * (wide(part[3]) + 256 * last);
+    wide(part[0]) + 256 * (wide(part[1]) + 256 * middle)
+}
+
+fn wide(width: u8) -> u64
+    ensures { λ r. ⌜ r ≡ width ⌝ }
+    ensures { λ r. ⌜ r < 256 ⌝ }
+{
+    width as u64
+}
