@@ -1,0 +1,50 @@
+-- The values of a left half: letter and digit at each place, and both come back from the value.
+use Prim.Native.Nat.{ℕ, zero, suc, _+_, _*_, _/_, _%_, _<_, suc-le-suc}
+use mathlib.Core.Path.{_≡_, refl, ap, ap₂}
+use mathlib.Core.List.{List, [], _∷_, map}
+use native.Mathlib.Nat.{le-of-suc-le-suc, not-suc-le-zero, suc-inj}
+use native.Mathlib.Omega.{arith}
+use lib.ListN.{length, getD}
+use Rattle.laws.specs.Below.{Below}
+use Rattle.ean.specs.Ean13.{leftValues}
+
+pub length-left : (letters digits : List ℕ) → length letters ≡ length digits → length (leftValues letters digits) ≡ length digits
+length-left [] [] e = refl
+length-left [] (d ∷ digits) e = absurd (omega arith)
+length-left (l ∷ letters) [] e = refl
+length-left (l ∷ letters) (d ∷ digits) e = ap suc (length-left letters digits (suc-inj e))
+
+pub left-at : (letters digits : List ℕ) (i : ℕ) → i < length letters → i < length digits → getD (leftValues letters digits) i 0 ≡ 10 * getD letters i 0 + getD digits i 0
+left-at [] digits i hl hd = absurd (not-suc-le-zero hl)
+left-at (l ∷ letters) [] i hl hd = absurd (not-suc-le-zero hd)
+left-at (l ∷ letters) (d ∷ digits) zero hl hd = refl
+left-at (l ∷ letters) (d ∷ digits) (suc i) hl hd = left-at letters digits i (le-of-suc-le-suc hl) (le-of-suc-le-suc hd)
+
+pub left-below : (letters digits : List ℕ) → length letters ≡ length digits → Below 2 letters → Below 10 digits → Below 20 (leftValues letters digits)
+left-below letters digits long lettered below i h =
+    let within : i < length digits = rw (length-left letters digits long) at h in
+    rw (left-at letters digits i (omega arith) within) (omega (arith, lettered i (omega arith), below i within))
+
+-- letter and digit come back from the value, and the value from them
+pub letters-again : (letters digits : List ℕ) → length letters ≡ length digits → Below 10 digits → map (λ v. v / 10) (leftValues letters digits) ≡ letters
+letters-again [] digits e below = refl
+letters-again (l ∷ letters) [] e below = absurd (omega arith)
+letters-again (l ∷ letters) (d ∷ digits) e below =
+    let first = below 0 (omega arith) in
+    let letter : (10 * l + d) / 10 ≡ l = omega arith in
+    ap₂ (λ (x : ℕ) (xs : List ℕ). x ∷ xs) letter (letters-again letters digits (suc-inj e) (λ i h. below (suc i) (suc-le-suc h)))
+
+pub digits-again : (letters digits : List ℕ) → length letters ≡ length digits → Below 10 digits → map (λ v. v % 10) (leftValues letters digits) ≡ digits
+digits-again [] [] e below = refl
+digits-again [] (d ∷ digits) e below = absurd (omega arith)
+digits-again (l ∷ letters) [] e below = refl
+digits-again (l ∷ letters) (d ∷ digits) e below =
+    let first = below 0 (omega arith) in
+    let digit : (10 * l + d) % 10 ≡ d = omega arith in
+    ap₂ (λ (x : ℕ) (xs : List ℕ). x ∷ xs) digit (digits-again letters digits (suc-inj e) (λ i h. below (suc i) (suc-le-suc h)))
+
+pub values-again : (values : List ℕ) → leftValues (map (λ v. v / 10) values) (map (λ v. v % 10) values) ≡ values
+values-again [] = refl
+values-again (v ∷ values) =
+    let value : 10 * (v / 10) + v % 10 ≡ v = omega arith in
+    ap₂ (λ (x : ℕ) (xs : List ℕ). x ∷ xs) value (values-again values)

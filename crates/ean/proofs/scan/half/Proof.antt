@@ -1,0 +1,154 @@
+-- `ean::scan::half` meets its contract: after i turns the scan's outcome is the i values that stand, in front of what is left to scan.
+use Prim.Native.Nat.{ℕ, _+_, _-_, _*_, _≤_}
+use mathlib.Core.Path.{_≡_, refl, sym, ap, ap₂, _∙_}
+use mathlib.Core.List.{List, [], _∷_, append-nil}
+use native.Mathlib.Numerals.{add-one}
+use native.Mathlib.Omega.{arith}
+use borrow.Author.Needs.{needs}
+use lib.ListN.{length, take, drop, length-set, length-take, length-drop}
+use lib.Seq.{take-all, take-suc-set}
+use Rattle.refusal.specs.Outcome.{made}
+use Rattle.patterns.specs.Patterns.{valueIn, characters}
+use Rattle.patterns.proofs.CharacterLaws.{prefixed, prefixed-twice, left, left-at-first, left-at-last, left-more, left-stop}
+use Rattle.ean.specs.Halves.{patternsOf, matchIn}
+use Rattle.ean.proofs.Scanning.{match-value, match-nothing, prefixed-none, own-refused, own-whole}
+use Rattle.ean.proofs.scan.half.Statement.{statement}
+use Rattle.ean.proofs.scan.half.Tie as tie
+
+abbrev Inv-loop : tie.InvT-loop
+Inv-loop sets place widths values₀ i₀ values i =
+    (i ≤ length values₀)
+    × (length values ≡ length values₀)
+    × (characters (patternsOf sets) 4 (length values₀) place widths ≡ prefixed (take i values) (left (patternsOf sets) 4 (length values₀) place widths i))
+
+abbrev μ-loop : tie.MeasureT-loop
+μ-loop sets place widths values₀ i₀ values i = length values₀ - i
+
+loop-holds : tie.Need-loop-holds Inv-loop μ-loop
+loop-holds c =
+    let start = c .before .before in
+    let patterns = patternsOf (start .args .sets) in
+    let widths = start .args .widths .now in
+    let count = length (start .args .values .now) in
+    (omega arith, refl, left-at-first patterns 4 count (start .args .place) widths ∙ sym (prefixed-none (left patterns 4 count (start .args .place) widths 0)))
+
+mul-at : tie.Need-mul-at Inv-loop μ-loop
+mul-at c = omega arith
+
+add-value-of : tie.Need-add-value-of Inv-loop μ-loop
+add-value-of c = omega arith
+
+sub-value-of : tie.Need-sub-value-of Inv-loop μ-loop
+sub-value-of c = omega arith
+
+part-value-of-start : tie.Need-part-value-of-start Inv-loop μ-loop
+part-value-of-start c = omega arith
+
+part-value-of-end : tie.Need-part-value-of-end Inv-loop μ-loop
+part-value-of-end c = omega arith
+
+value-of-requires : tie.Need-value-of-requires Inv-loop μ-loop
+value-of-requires c κs = simp (length-take, length-drop) (omega arith)
+
+enum-known-value : tie.Need-enum-known-value Inv-loop μ-loop
+enum-known-value c = search needs
+
+enum-told : tie.Need-enum-told Inv-loop μ-loop
+enum-told c = search needs
+
+add-t15 : tie.Need-add-t15 Inv-loop μ-loop
+add-t15 c = omega arith
+
+same-length : tie.Need-same-length Inv-loop μ-loop
+same-length c = omega arith
+
+returns : tie.Need-returns Inv-loop μ-loop
+returns c =
+    let at = c .before .before .before .before .before in
+    let start = at .before .before .before in
+    let patterns = patternsOf (start .args .sets) in
+    let widths = start .args .widths .now in
+    let count = length (start .args .values .now) in
+    let i = at .loop .i in
+    let size : 4 * i + 4 - 4 * i ≡ 4 = omega arith in
+    let none : valueIn patterns (take 4 (drop (4 * i) widths)) ≡ length patterns =
+    match-nothing patterns _
+    (sym (c .enum-told .given .1) ∙ c .before .before .value-of .ensures ∙ ap (λ (n : ℕ). matchIn patterns (take n (drop (4 * i) widths))) size) in
+    own-refused _ _ _ _
+    (at .loop .inv .2 ∙ ap (prefixed (take i (at .loop .values))) (left-stop patterns 4 count (start .args .place) widths i (omega arith) none))
+
+slice-write-values : tie.Need-slice-write-values Inv-loop μ-loop
+slice-write-values c = omega arith
+
+add-i : tie.Need-add-i Inv-loop μ-loop
+add-i c = omega arith
+
+loop-less : tie.Need-loop-less Inv-loop μ-loop
+loop-less c = omega arith
+
+loop-again : tie.Need-loop-again Inv-loop μ-loop
+loop-again c =
+    let at = c .before .before .before .before .before .before in
+    let start = at .before .before .before in
+    let patterns = patternsOf (start .args .sets) in
+    let widths = start .args .widths .now in
+    let count = length (start .args .values .now) in
+    let i = at .loop .i in
+    let v = c .before .value .given .0 .0 in
+    let size : 4 * i + 4 - 4 * i ≡ 4 = omega arith in
+    let found =
+    match-value patterns (take 4 (drop (4 * i) widths)) v
+    (sym (c .before .value .given .1) ∙ c .before .before .before .value-of .ensures ∙ ap (λ (n : ℕ). matchIn patterns (take n (drop (4 * i) widths))) size) in (
+      omega arith,
+      simp length-set (omega arith),
+      at .loop .inv .2
+          ∙ ap (prefixed (take i (at .loop .values))) (left-more patterns 4 count (start .args .place) widths i v (omega arith) (found .0) (found .1))
+          ∙ prefixed-twice (take i (at .loop .values)) (v ∷ []) (left patterns 4 count (start .args .place) widths (i + 1))
+          ∙ ap (λ (done : List ℕ). prefixed done (left patterns 4 count (start .args .place) widths (i + 1)))
+          (sym (rw add-one (take-suc-set (at .loop .values) i v (omega arith)))),
+    )
+
+same-length-2 : tie.Need-same-length-2 Inv-loop μ-loop
+same-length-2 c = omega arith
+
+returns-2 : tie.Need-returns-2 Inv-loop μ-loop
+returns-2 c =
+    let at = c .before in
+    let start = at .before .before .before in
+    let patterns = patternsOf (start .args .sets) in
+    let widths = start .args .widths .now in
+    let values = at .loop .values in
+    let count = length (start .args .values .now) in
+    let i = at .loop .i in
+    let whole : i ≡ count = omega arith in
+    let long : length values ≡ i = omega arith in
+    rw (← long)
+    (own-whole _ _ values (omega arith)
+    (at .loop .inv .2
+    ∙ ap₂ prefixed (take-all i values (omega arith)) (ap (left patterns 4 count (start .args .place) widths) whole ∙ left-at-last patterns 4 count (start .args .place) widths)
+    ∙ ap made (append-nil values)))
+
+pub half-spec : {M : Type 1} → statement M
+half-spec =
+    tie.close
+    (tie.spec
+    Inv-loop
+    μ-loop
+    loop-holds
+    mul-at
+    add-value-of
+    sub-value-of
+    part-value-of-start
+    part-value-of-end
+    value-of-requires
+    enum-known-value
+    enum-told
+    add-t15
+    same-length
+    returns
+    slice-write-values
+    add-i
+    loop-less
+    loop-again
+    same-length-2
+    returns-2)

@@ -1,0 +1,131 @@
+// The widths of the ten digits in each set, and the parity rows of the first digit.
+ghost use mathlib.Core.Path.{_≡_};
+ghost use mathlib.Core.List.{[]};
+ghost use Prim.Native.Nat.{_<_};
+ghost use lib.ListN.{length, getD};
+ghost use Rattle.ean.specs.Tables.{setA, setB, setC, parityRows};
+ghost use Rattle.ean.specs.Halves.{patternsOf};
+
+// The sets that a half of a symbol takes its characters from.
+pub enum Sets {
+    A,
+    AOrB,
+    C,
+}
+
+impl Sets {
+    // How many patterns the sets have.
+    pub(crate) fn count(self) -> usize
+        ensures { λ r. ⌜ r ≡ length (patternsOf self) ⌝ }
+    {
+        match self {
+            Sets::A => 10,
+            Sets::AOrB => 20,
+            Sets::C => 10,
+        }
+    }
+}
+
+// The letters of a parity row.
+pub(crate) const A: u8 = 0;
+
+pub(crate) const B: u8 = 1;
+
+const SET_A: [[u8; 4]; 10] = [
+    [3, 2, 1, 1],
+    [2, 2, 2, 1],
+    [2, 1, 2, 2],
+    [1, 4, 1, 1],
+    [1, 1, 3, 2],
+    [1, 2, 3, 1],
+    [1, 1, 1, 4],
+    [1, 3, 1, 2],
+    [1, 2, 1, 3],
+    [3, 1, 1, 2],
+];
+
+const SET_B: [[u8; 4]; 10] = [
+    [1, 1, 2, 3],
+    [1, 2, 2, 2],
+    [2, 2, 1, 2],
+    [1, 1, 4, 1],
+    [2, 3, 1, 1],
+    [1, 3, 2, 1],
+    [4, 1, 1, 1],
+    [2, 1, 3, 1],
+    [3, 1, 2, 1],
+    [2, 1, 1, 3],
+];
+
+const SET_C: [[u8; 4]; 10] = [
+    [3, 2, 1, 1],
+    [2, 2, 2, 1],
+    [2, 1, 2, 2],
+    [1, 4, 1, 1],
+    [1, 1, 3, 2],
+    [1, 2, 3, 1],
+    [1, 1, 1, 4],
+    [1, 3, 1, 2],
+    [1, 2, 1, 3],
+    [3, 1, 1, 2],
+];
+
+const PARITY: [[u8; 6]; 10] = [
+    [A, A, A, A, A, A],
+    [A, A, B, A, B, B],
+    [A, A, B, B, A, B],
+    [A, A, B, B, B, A],
+    [A, B, A, A, B, B],
+    [A, B, B, A, A, B],
+    [A, B, B, B, A, A],
+    [A, B, A, B, A, B],
+    [A, B, A, B, B, A],
+    [A, B, B, A, B, A],
+];
+
+fn set_a(digit: usize) -> [u8; 4]
+    requires { ⌜ digit < 10 ⌝ }
+    ensures { λ r. ⌜ r ≡ getD setA digit [] ⌝ }
+{
+    SET_A[digit]
+}
+
+fn set_b(digit: usize) -> [u8; 4]
+    requires { ⌜ digit < 10 ⌝ }
+    ensures { λ r. ⌜ r ≡ getD setB digit [] ⌝ }
+{
+    SET_B[digit]
+}
+
+fn set_c(digit: usize) -> [u8; 4]
+    requires { ⌜ digit < 10 ⌝ }
+    ensures { λ r. ⌜ r ≡ getD setC digit [] ⌝ }
+{
+    SET_C[digit]
+}
+
+// The letters that stand for a first digit.
+pub(crate) fn parity_row(digit: usize) -> [u8; 6]
+    requires { ⌜ digit < 10 ⌝ }
+    ensures { λ r. ⌜ r ≡ getD parityRows digit [] ⌝ }
+{
+    PARITY[digit]
+}
+
+// The widths of a value: the digit's, where ten more is the digit in set B.
+pub(crate) fn pattern(sets: Sets, value: usize) -> [u8; 4]
+    requires { ⌜ value < length (patternsOf sets) ⌝ }
+    ensures { λ r. ⌜ r ≡ getD (patternsOf sets) value [] ⌝ }
+{
+    match sets {
+        Sets::A => set_a(value),
+        Sets::AOrB => {
+            if value < 10 {
+                set_a(value)
+            } else {
+                set_b(value - 10)
+            }
+        }
+        Sets::C => set_c(value),
+    }
+}
