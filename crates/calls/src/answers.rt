@@ -2,8 +2,15 @@
 ghost use mathlib.Core.Path.{_≡_};
 ghost use Prim.Native.Nat.{_+_, _≤_, _<_};
 ghost use lib.ListN.{length};
+ghost use Rattle.calls.specs.Places.{Filled};
 use refusal::Answer;
 use refusal::Refusal;
+
+// How a list is shown: a digit for each width, or the bytes of a number or a message, with `^` for a separator.
+pub enum Form {
+    Widths,
+    Bytes,
+}
 
 // A whole line: the number that a call made, or its refusal.
 pub fn put_answer(answer: Answer, out: &mut [u8]) -> usize
@@ -29,6 +36,30 @@ pub fn put_refusal(refusal: Refusal, out: &mut [u8]) -> usize
     ensures { λ r. ⌜ (0 < r) × (r ≤ 1024) ⌝ }
 {
     let at = put_pair(refusal.number(), refusal.place(), out);
+    put_byte(b'\n', out, at)
+}
+
+// A whole line: the count of what a call made and the list itself, or the refusal.
+pub fn put_made(answer: Answer, form: Form, list: &[u8], out: &mut [u8]) -> usize
+    requires { ⌜ Filled answer (length (now list)) ⌝ }
+    requires { ⌜ length (now list) ≤ 700 ⌝ }
+    requires { ⌜ 1024 ≤ length (now out) ⌝ }
+    ensures { λ r. ⌜ (0 < r) × (r ≤ 1024) ⌝ }
+{
+    let Answer::Done(n) = answer else {
+        return put_answer(answer, out);
+    };
+    put_counted(form, &list[0..n], out)
+}
+
+fn put_counted(form: Form, list: &[u8], out: &mut [u8]) -> usize
+    requires { ⌜ length (now list) ≤ 700 ⌝ }
+    requires { ⌜ 1024 ≤ length (now out) ⌝ }
+    ensures { λ r. ⌜ (0 < r) × (r ≤ 1024) ⌝ }
+{
+    let at = put_pair(0, list.len(), out);
+    let at = put_byte(b' ', out, at);
+    let at = put_list(form, list, out, at);
     put_byte(b'\n', out, at)
 }
 
@@ -64,4 +95,24 @@ fn put_byte(byte: u8, out: &mut [u8], at: usize) -> usize
 {
     out[at] = byte;
     at + 1
+}
+
+fn put_list(form: Form, list: &[u8], out: &mut [u8], at: usize) -> usize
+    requires { ⌜ at + length (now list) ≤ length (now out) ⌝ }
+    ensures { λ r. ⌜ r ≡ at + length (now (list .entry)) ⌝ }
+{
+    let mut i = 0;
+    while i < list.len() {
+        out[at + i] = shown(form, list[i]);
+        i += 1;
+    }
+    at + i
+}
+
+// No width that is drawn is over 9.
+fn shown(form: Form, element: u8) -> u8 {
+    match form {
+        Form::Widths => b'0' + element % 10,
+        Form::Bytes => { if element == 29 { b'^' } else { element } }
+    }
 }

@@ -1,17 +1,23 @@
 // The desk's lines: a call and its arguments in, one line of answer out. Nothing here reads or writes anything but the bytes it is lent.
 mod answers;
 mod digit;
+mod kinds;
+mod messages;
 mod room;
+mod symbols;
+mod widths;
 mod words;
 
 ghost use Prim.Native.Nat.{_≤_, _<_};
 ghost use lib.ListN.{length};
+ghost use Rattle.calls.specs.Places.{placesOf};
 use room::Room;
 use text::Number;
 use words::Word;
 
-// Answers a line: a call, before which `room N ` may stand. The answer's last byte is its byte 10.
+// Answers a line of at most 4,096 bytes: a call, before which `room N ` may stand. The answer's last byte is its byte 10.
 pub fn answer(line: &[u8], out: &mut [u8]) -> usize
+    requires { ⌜ length (now line) ≤ 4096 ⌝ }
     requires { ⌜ 1024 ≤ length (now out) ⌝ }
     ensures { λ r. ⌜ (0 < r) × (r ≤ 1024) ⌝ }
 {
@@ -36,6 +42,7 @@ pub fn too_long(out: &mut [u8]) -> usize
 
 // Answers what stands after `room `: a number of places, and then a call.
 fn in_room(line: &[u8], out: &mut [u8]) -> usize
+    requires { ⌜ length (now line) ≤ 4096 ⌝ }
     requires { ⌜ 1024 ≤ length (now out) ⌝ }
     ensures { λ r. ⌜ (0 < r) × (r ≤ 1024) ⌝ }
 {
@@ -50,9 +57,10 @@ fn in_room(line: &[u8], out: &mut [u8]) -> usize
     call(&line[from..], Room::Exactly(places), out)
 }
 
-// Answers a call by the word before its first space; what stands after that space are its arguments. No call so far is lent a list, so
-// none asks for the room.
-fn call(line: &[u8], _room: Room, out: &mut [u8]) -> usize
+// Answers a call by the word before its first space; what stands after that space are its arguments.
+fn call(line: &[u8], room: Room, out: &mut [u8]) -> usize
+    requires { ⌜ length (now line) ≤ 4096 ⌝ }
+    requires { ⌜ (placesOf room 64 ≤ 700) × (placesOf room 700 ≤ 700) ⌝ }
     requires { ⌜ 1024 ≤ length (now out) ⌝ }
     ensures { λ r. ⌜ (0 < r) × (r ≤ 1024) ⌝ }
 {
@@ -63,6 +71,9 @@ fn call(line: &[u8], _room: Room, out: &mut [u8]) -> usize
     let from = end + 1;
     match words::named(&line[0..end]) {
         Word::Digit => digit::digit(&line[from..], out),
+        Word::Test => messages::test(&line[from..], out),
+        Word::Draw(kind) => symbols::draw(kind, &line[from..], room, out),
+        Word::Read(kind) => symbols::read(kind, &line[from..], room, out),
         Word::Room => no_such_call(out),
         Word::Other => no_such_call(out),
     }

@@ -1,10 +1,14 @@
 // The words that a line may begin with.
 ghost use mathlib.Core.Path.{_≡_};
 ghost use mathlib.Core.Bool.{true};
+use crate::kinds::Kind;
 
 pub enum Word {
     Room,
     Digit,
+    Test,
+    Draw(Kind),
+    Read(Kind),
     Other,
 }
 
@@ -14,6 +18,32 @@ pub fn named(bytes: &[u8]) -> Word {
     }
     if is_word(bytes, b"digit") {
         return Word::Digit;
+    }
+    if is_word(bytes, b"test") {
+        return Word::Test;
+    }
+    symbol_named(bytes)
+}
+
+// The words of the symbols.
+fn symbol_named(bytes: &[u8]) -> Word {
+    if is_word(bytes, b"ean13") {
+        return Word::Draw(Kind::Ean13);
+    }
+    if is_word(bytes, b"ean8") {
+        return Word::Draw(Kind::Ean8);
+    }
+    if is_word(bytes, b"itf14") {
+        return Word::Draw(Kind::Itf14);
+    }
+    if is_word(bytes, b"read-ean13") {
+        return Word::Read(Kind::Ean13);
+    }
+    if is_word(bytes, b"read-ean8") {
+        return Word::Read(Kind::Ean8);
+    }
+    if is_word(bytes, b"read-itf14") {
+        return Word::Read(Kind::Itf14);
     }
     Word::Other
 }
