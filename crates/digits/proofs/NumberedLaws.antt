@@ -10,6 +10,7 @@ use lib.ListN.{length, getD, length-map, List·getD-map}
 use lib.Seq.{ext-getD}
 use lib.Dec.{eqb}
 use borrow.Author.Tests.{le-leb, eqb-true, eq-eqb}
+use Rattle.laws.specs.Below.{Below}
 use Rattle.laws.specs.First.{firstNot}
 use Rattle.laws.proofs.FirstLaws.{all-pass, pass-all}
 use Rattle.refusal.specs.declared.Answer.the-variants.{Done, Refused}
@@ -62,11 +63,7 @@ right-of-parts count number ds r =
     let right : isRight (map valueOf number) ≡ true = rw (← r .values) (r .right) in
     simp (eq-eqb _ _ (r .counted), digits-made number (r .all), right) (ap made (sym (r .values)))
 
--- every element is a digit's value
-abbrev pub Digits : List ℕ → Type 0
-Digits ds = (i : ℕ) → i < length ds → getD ds i 0 < 10
-
-pub values-are-digits : (bytes : List ℕ) → firstNot isDigit bytes ≡ length bytes → Digits (map valueOf bytes)
+pub values-are-digits : (bytes : List ℕ) → firstNot isDigit bytes ≡ length bytes → Below 10 (map valueOf bytes)
 values-are-digits bytes all i h =
     let within : i < length bytes = rw length-map at h in
     rw (List·getD-map valueOf bytes i 0) (omega (arith, digit-at bytes all i within .1))
@@ -83,7 +80,7 @@ pub values-of-bytes : (ds : List ℕ) → map valueOf (map byteOf ds) ≡ ds
 values-of-bytes [] = refl
 values-of-bytes (d ∷ ds) = ap₂ (λ (v : ℕ) (vs : List ℕ). v ∷ vs) (add-sub-cancel-left 48 d) (values-of-bytes ds)
 
-pub bytes-are-digits : (ds : List ℕ) → Digits ds → firstNot isDigit (map byteOf ds) ≡ length (map byteOf ds)
+pub bytes-are-digits : (ds : List ℕ) → Below 10 ds → firstNot isDigit (map byteOf ds) ≡ length (map byteOf ds)
 bytes-are-digits ds below = pass-all isDigit (map byteOf ds) 48
     (λ i h.
     let within : i < length ds = rw length-map at h in
@@ -121,7 +118,7 @@ read-as-written number room all = simp (eq-eqb (length number) (length number) r
 
 -- Reading and drawing undo one another where the scan and the symbol do.
 module _ (count : ℕ) (symbol : List ℕ → List ℕ) (scanned : List ℕ → Outcome (List ℕ)) where
-  pub read-of-write : ((ds : List ℕ) → length ds ≡ count → Digits ds → scanned (symbol ds) ≡ made ds) → (number widths : List ℕ) (room room′ : ℕ) → numberWritten count symbol number room ≡ made widths → count ≤ room′ → numberRead (scanned widths) room′ ≡ made number
+  pub read-of-write : ((ds : List ℕ) → length ds ≡ count → Below 10 ds → scanned (symbol ds) ≡ made ds) → (number widths : List ℕ) (room room′ : ℕ) → numberWritten count symbol number room ≡ made widths → count ≤ room′ → numberRead (scanned widths) room′ ≡ made number
   unfolding numberWritten
   read-of-write back number widths room room′ e fits =
       let w = bind-made (rightNumber count number) (λ (ds : List ℕ). laying (symbol ds) room) widths e in
@@ -129,13 +126,13 @@ module _ (count : ℕ) (symbol : List ℕ → List ℕ) (scanned : List ℕ → 
       let r = right-made count number ds (w .1) in
       let drawn : symbol ds ≡ widths = made-of-laying (symbol ds) widths room (w .2) .1 in
       let long : length ds ≡ count = ap length (r .values) ∙ length-map number valueOf ∙ r .counted in
-      let digits : Digits ds = subst Digits (sym (r .values)) (values-are-digits number (r .all)) in
+      let digits : Below 10 ds = subst (Below 10) (sym (r .values)) (values-are-digits number (r .all)) in
       let scan : scanned widths ≡ made ds = ap scanned (sym drawn) ∙ back ds long digits in
       read-made (scanned widths) room′ ds scan (r .right)
       ∙ laying-made (map byteOf ds) room′ (rw length-map (omega arith))
       ∙ ap made (ap (map byteOf) (r .values) ∙ bytes-of-values number (r .all))
 
-  pub write-of-read : ((widths ds : List ℕ) → scanned widths ≡ made ds → (symbol ds ≡ widths) × (length ds ≡ count) × Digits ds) → (widths number : List ℕ) (room room′ : ℕ) → numberRead (scanned widths) room ≡ made number → length widths ≤ room′ → numberWritten count symbol number room′ ≡ made widths
+  pub write-of-read : ((widths ds : List ℕ) → scanned widths ≡ made ds → (symbol ds ≡ widths) × (length ds ≡ count) × Below 10 ds) → (widths number : List ℕ) (room room′ : ℕ) → numberRead (scanned widths) room ≡ made number → length widths ≤ room′ → numberWritten count symbol number room′ ≡ made widths
   unfolding numberRead
   write-of-read back widths number room room′ e fits =
       let s = bind-made (scanned widths) (λ (ds : List ℕ). must (isRight ds) CheckDigit >> laying (map byteOf ds) room) number e in
@@ -149,7 +146,7 @@ module _ (count : ℕ) (symbol : List ℕ → List ℕ) (scanned : List ℕ → 
       ∙ ap made (b .0)
 
   -- so no two lists are read as one number
-  pub one-list : ((widths ds : List ℕ) → scanned widths ≡ made ds → (symbol ds ≡ widths) × (length ds ≡ count) × Digits ds) → (widths widths′ number : List ℕ) (room room′ : ℕ) → numberRead (scanned widths) room ≡ made number → numberRead (scanned widths′) room′ ≡ made number → widths ≡ widths′
+  pub one-list : ((widths ds : List ℕ) → scanned widths ≡ made ds → (symbol ds ≡ widths) × (length ds ≡ count) × Below 10 ds) → (widths widths′ number : List ℕ) (room room′ : ℕ) → numberRead (scanned widths) room ≡ made number → numberRead (scanned widths′) room′ ≡ made number → widths ≡ widths′
   one-list back widths widths′ number room room′ e e′ =
       let most = length widths + length widths′ in
       made-same widths widths′

@@ -7,11 +7,11 @@ use native.Mathlib.Nat.{mul-zero, mul-suc, add-comm}
 use native.Mathlib.Omega.{arith}
 use lib.Dec.{T, eqb, eqb→eq}
 use lib.ListN.{length, getD}
+use Rattle.laws.specs.Below.{Below}
 use Rattle.laws.specs.Sum.{sum}
 use Rattle.laws.proofs.SumLaws.{sum-of-append}
 use Rattle.laws.proofs.Tables.{every, at-entry}
 use Rattle.patterns.specs.Patterns.{drawn}
-use Rattle.patterns.proofs.CharacterLaws.{Within}
 
 -- every pattern sums to `total`: a test that is computed over the table
 abbrev pub summing : ℕ → List (List ℕ) → Bool
@@ -21,7 +21,7 @@ module _ (patterns : List (List ℕ)) (total : ℕ) (sums : T (summing total pat
   sum-at : (v : ℕ) → v < length patterns → sum (getD patterns v []) ≡ total
   sum-at v h = eqb→eq _ total (at-entry (λ (k : ℕ) (pattern : List ℕ). eqb (sum pattern) total) [] patterns sums v h)
 
-  pub sum-of-drawn : (values : List ℕ) → Within (length patterns) values → sum (drawn patterns values) ≡ total * length values
+  pub sum-of-drawn : (values : List ℕ) → Below (length patterns) values → sum (drawn patterns values) ≡ total * length values
   unfolding drawn sum
   sum-of-drawn [] within = sym (mul-zero total)
   sum-of-drawn (v ∷ values) within =

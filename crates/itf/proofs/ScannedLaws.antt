@@ -7,6 +7,7 @@ use native.Mathlib.Omega.{arith}
 use lib.ListN.{length, drop, drop-of-length-le}
 use lib.Dec.{eqb}
 use borrow.Author.Tests.{eq-eqb, ne-eqb, eqb-true}
+use Rattle.laws.specs.Below.{Below}
 use Rattle.refusal.specs.declared.Answer.the-variants.{Done}
 use Rattle.refusal.specs.declared.Refusal.{Refusal}
 use Rattle.refusal.specs.declared.Refusal.the-variants.{Count, Guard}
@@ -15,7 +16,7 @@ use Rattle.refusal.specs.Fills.{FillsOwn}
 use Rattle.refusal.proofs.OutcomeLaws.{made-same, must-made, bind-made}
 use Rattle.refusal.proofs.FillsLaws.{made-of-answer}
 use Rattle.patterns.specs.Patterns.{characters}
-use Rattle.patterns.proofs.CharacterLaws.{Within, drawn-of-characters}
+use Rattle.patterns.proofs.CharacterLaws.{drawn-of-characters}
 use Rattle.itf.specs.Tables.{pairs}
 use Rattle.itf.specs.Itf14.{unpaired, guarded14, scanned14}
 
@@ -47,7 +48,7 @@ module _ (widths : List ℕ) where
       (s .0, eqb-true _ _ (a .0), b .0, s .1, sym (made-same _ _ (s .2)))
 
 -- the seven values that a scan has laid in a list of seven places
-pub scanned-values : (widths before after : List ℕ) (n : ℕ) → FillsOwn (characters pairs 10 7 0 widths) before (Done n) after → length before ≡ 7 → (characters pairs 10 7 0 widths ≡ made after) × (length after ≡ 7) × Within (length pairs) after
+pub scanned-values : (widths before after : List ℕ) (n : ℕ) → FillsOwn (characters pairs 10 7 0 widths) before (Done n) after → length before ≡ 7 → (characters pairs 10 7 0 widths ≡ made after) × (length after ≡ 7) × Below (length pairs) after
 scanned-values widths before after n fills seven =
     let m = made-of-answer (characters pairs 10 7 0 widths) n (fills .answer) in
     let d = drawn-of-characters pairs 10 7 0 widths (m .0) (m .1) in

@@ -14,7 +14,7 @@ use Rattle.laws.proofs.SumLaws.{sum-of-append}
 use Rattle.refusal.specs.Outcome.{made}
 use Rattle.patterns.specs.Patterns.{same, drawn, characters}
 use Rattle.patterns.proofs.PatternLaws.{same-true}
-use Rattle.patterns.proofs.CharacterLaws.{Within, length-of-drawn, characters-of-drawn, drawn-of-characters}
+use Rattle.patterns.proofs.CharacterLaws.{length-of-drawn, characters-of-drawn, drawn-of-characters}
 use Rattle.itf.specs.Tables.{pairs, start, stop}
 use Rattle.itf.specs.Itf14.{paired, symbol14, guarded14, scanned14}
 use Rattle.itf.proofs.DrawnSums.{summing, sum-of-drawn}
@@ -35,7 +35,7 @@ module _ (digits : List ℕ) (e : length digits ≡ 14) (below : Below 10 digits
   seven : length values ≡ 7
   seven = length-paired 7 digits e
 
-  within : Within (length pairs) values
+  within : Below (length pairs) values
   within = rw length-pairs (paired-below 7 digits e below)
 
   seventy : length (drawn pairs values) ≡ 70

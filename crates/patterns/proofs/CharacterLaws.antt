@@ -11,6 +11,7 @@ use lib.ListN.{length, getD, take, drop, length-append}
 use lib.Seq.{take-at, drop-at, drop-drop, take-add}
 use lib.Dec.{T, eqb, eqb→eq, ltb}
 use borrow.Author.Tests.{lt-ltb, le-ltb, ltb-true}
+use Rattle.laws.specs.Below.{Below}
 use Rattle.laws.proofs.Tables.{every, at-entry}
 use Rattle.refusal.specs.declared.Refusal.the-variants.{Pattern}
 use Rattle.refusal.specs.Outcome.{Outcome, made, refused, _>>=_, _>>_, must}
@@ -69,18 +70,14 @@ module _ (patterns : List (List ℕ)) (size count place : ℕ) (widths : List �
 abbrev pub sized : ℕ → List (List ℕ) → Bool
 sized size patterns = every (λ (k : ℕ) (pattern : List ℕ). eqb (length pattern) size) patterns
 
--- every value is that of a pattern
-abbrev pub Within : ℕ → List ℕ → Type 0
-Within n values = (i : ℕ) → i < length values → getD values i 0 < n
-
-below-first : (n v : ℕ) (values : List ℕ) → Within n (v ∷ values) → v < n
+below-first : (n v : ℕ) (values : List ℕ) → Below n (v ∷ values) → v < n
 below-first n v values within = within 0 (omega arith)
 
-below-rest : (n v : ℕ) (values : List ℕ) → Within n (v ∷ values) → Within n values
+below-rest : (n v : ℕ) (values : List ℕ) → Below n (v ∷ values) → Below n values
 below-rest n v values within i h = within (suc i) (suc-le-suc h)
 
 module _ (patterns : List (List ℕ)) (size : ℕ) where
-  pub drawn-of-characters : (count place : ℕ) (widths values : List ℕ) → characters patterns size count place widths ≡ made values → (length values ≡ count) × (drawn patterns values ≡ take (size * count) widths) × Within (length patterns) values
+  pub drawn-of-characters : (count place : ℕ) (widths values : List ℕ) → characters patterns size count place widths ≡ made values → (length values ≡ count) × (drawn patterns values ≡ take (size * count) widths) × Below (length patterns) values
   unfolding characters drawn
   drawn-of-characters zero place widths values e =
       let none : [] ≡ values = made-same [] values e in
@@ -92,7 +89,7 @@ module _ (patterns : List (List ℕ)) (size : ℕ) where
       let b = bind-made (characters patterns size count (suc place) (drop size widths)) (λ (vs : List ℕ). made (v ∷ vs)) values (m .1) in
       let ih = drawn-of-characters count (suc place) (drop size widths) (b .0) (b .1) in
       subst
-      (λ (vs : List ℕ). (length vs ≡ suc count) × (drawn patterns vs ≡ take (size * suc count) widths) × Within (length patterns) vs)
+      (λ (vs : List ℕ). (length vs ≡ suc count) × (drawn patterns vs ≡ take (size * suc count) widths) × Below (length patterns) vs)
       (made-same (v ∷ b .0) values (b .2)) (
         ap suc (ih .0),
         ap₂ (λ (row rest : List ℕ). row ++ rest) (pattern-at patterns (take size widths) below) (ih .1)
@@ -101,7 +98,7 @@ module _ (patterns : List (List ℕ)) (size : ℕ) where
         within v (b .0) below (ih .2),
       )
     where
-      within : (v : ℕ) (vs : List ℕ) → v < length patterns → Within (length patterns) vs → Within (length patterns) (v ∷ vs)
+      within : (v : ℕ) (vs : List ℕ) → v < length patterns → Below (length patterns) vs → Below (length patterns) (v ∷ vs)
       within v vs below rest zero h = below
       within v vs below rest (suc i) h = rest i (le-of-suc-le-suc h)
 
@@ -109,7 +106,7 @@ module _ (patterns : List (List ℕ)) (size : ℕ) (sizes : T (sized size patter
   pub length-at : (v : ℕ) → v < length patterns → length (getD patterns v []) ≡ size
   length-at v h = eqb→eq _ size (at-entry (λ (k : ℕ) (pattern : List ℕ). eqb (length pattern) size) [] patterns sizes v h)
 
-  pub length-of-drawn : (values : List ℕ) → Within (length patterns) values → length (drawn patterns values) ≡ size * length values
+  pub length-of-drawn : (values : List ℕ) → Below (length patterns) values → length (drawn patterns values) ≡ size * length values
   unfolding drawn
   length-of-drawn [] within = sym (mul-zero size)
   length-of-drawn (v ∷ values) within =
@@ -118,7 +115,7 @@ module _ (patterns : List (List ℕ)) (size : ℕ) (sizes : T (sized size patter
       ∙ add-comm size (size * length values)
       ∙ sym (mul-suc size (length values))
 
-  pub characters-of-drawn : T (distinct patterns) → (values : List ℕ) → Within (length patterns) values → (place : ℕ) (rest : List ℕ) → characters patterns size (length values) place (drawn patterns values ++ rest) ≡ made values
+  pub characters-of-drawn : T (distinct patterns) → (values : List ℕ) → Below (length patterns) values → (place : ℕ) (rest : List ℕ) → characters patterns size (length values) place (drawn patterns values ++ rest) ≡ made values
   unfolding characters drawn
   characters-of-drawn t [] within place rest = refl
   characters-of-drawn t (v ∷ values) within place rest =

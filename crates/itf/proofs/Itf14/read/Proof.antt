@@ -18,7 +18,6 @@ use Rattle.digits.specs.Digit.{valueOf}
 use Rattle.digits.specs.Numbered.{byteOf, numberRead}
 use Rattle.digits.proofs.NumberedLaws.{read-refused, bytes-are-digits, values-of-bytes}
 use Rattle.patterns.specs.Patterns.{characters}
-use Rattle.patterns.proofs.CharacterLaws.{Within}
 use Rattle.itf.specs.Tables.{pairs}
 use Rattle.itf.specs.Itf14.{unpaired, guarded14, scanned14, reads14}
 use Rattle.itf.proofs.PairLaws.{length-pairs}
@@ -95,7 +94,7 @@ module _ (c : tie.After-enum-told) where
   abbrev values : List ℕ
   values = c .before .before .before .pair-values .last .1 .0
 
-  abbrev scanned : (characters pairs 10 7 0 (take (length (widths (c .before .before)) - 4) (drop 4 (widths (c .before .before)))) ≡ made values) × (length values ≡ 7) × Within (length pairs) values
+  abbrev scanned : (characters pairs 10 7 0 (take (length (widths (c .before .before)) - 4) (drop 4 (widths (c .before .before)))) ≡ made values) × (length values ≡ 7) × Below (length pairs) values
   scanned =
       let scan = c .before .before .before .pair-values in
       scanned-values _ _ values (c .enum-told .given .0 .0) (rw (c .enum-told .given .1) at (scan .ensures)) refl
