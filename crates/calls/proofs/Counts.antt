@@ -1,22 +1,25 @@
 -- Counts that lie within a list: a call that fills what it was lent counts no more places than there are, and a numeral says no more than
--- the most that it may.
+-- the most that it may; a part of a message is no longer than a message may be.
 use Prim.Native.Nat.{ℕ, _≤_}
 use mathlib.Core.Path.{_≡_, refl, ap}
 use mathlib.Core.Bool.{Bool, true, false, cond, _&&_}
 use mathlib.Core.List.{List}
 use native.Mathlib.Omega.{arith}
-use lib.ListN.{length}
+use lib.ListN.{length, length-take, length-drop}
 use lib.Dec.{leb}
 use borrow.Author.Tests.{leb-true}
 use Rattle.laws.proofs.Booleans.{both-hold}
 use Rattle.refusal.specs.declared.Answer.{Answer}
 use Rattle.refusal.specs.declared.Answer.the-variants.{Done, Refused}
-use Rattle.refusal.specs.Outcome.{Outcome}
+use Rattle.refusal.specs.Outcome.{Outcome, made, refused}
 use Rattle.refusal.specs.Fills.{Fills}
 use Rattle.refusal.proofs.FillsLaws.{fills-within}
 use Rattle.text.specs.declared.Number.{Number}
 use Rattle.text.specs.declared.Number.the-variants.{Is, Malformed}
 use Rattle.text.specs.Numeral.{isNumeral, numberFrom, numberIn}
+use Rattle.elements.specs.declared.Element.{Element}
+use Rattle.elements.specs.Asking.{asked, partOf}
+use Rattle.elements.proofs.AskedData.{string-of-asked}
 use Rattle.calls.specs.Places.{Filled}
 
 pub filled : (o : Outcome (List ℕ)) (before : List ℕ) (r : Answer) (after : List ℕ) → Fills o before r after → length after ≡ length before → Filled r (length before)
@@ -32,3 +35,13 @@ number-within bytes most n e = go (isNumeral bytes && leb (numberFrom 0 bytes) m
         let same : n ≡ numberFrom 0 bytes = cc in
         omega (arith, leb-true (numberFrom 0 bytes) most (both-hold (isNumeral bytes) (leb (numberFrom 0 bytes) most) t .1))
     go false t is = absurd (let z : _≡_ {A = ℕ} 0 1 = cc in omega arith)
+
+-- a part that is handed back lies in a message, which has at most 48 bytes
+pub part-short : (message : List ℕ) (identifier : ℕ) → length (partOf message (asked message identifier)) ≤ 48
+part-short message identifier = go (asked message identifier) refl
+  where
+    go : (o : Outcome Element) → asked message identifier ≡ o → length (partOf message o) ≤ 48
+    go (made element) e =
+        let most = string-of-asked message identifier element e .2 .most in
+        simp (length-take, length-drop) (omega arith)
+    go (refused f) e = omega arith

@@ -52,7 +52,8 @@ pub fn put_made(answer: Answer, form: Form, list: &[u8], out: &mut [u8]) -> usiz
     put_counted(form, &list[0..n], out)
 }
 
-fn put_counted(form: Form, list: &[u8], out: &mut [u8]) -> usize
+// A whole line: the count of a list and the list itself.
+pub fn put_counted(form: Form, list: &[u8], out: &mut [u8]) -> usize
     requires { ⌜ length (now list) ≤ 700 ⌝ }
     requires { ⌜ 1024 ≤ length (now out) ⌝ }
     ensures { λ r. ⌜ (0 < r) × (r ≤ 1024) ⌝ }

@@ -72,6 +72,8 @@ fn call(line: &[u8], room: Room, out: &mut [u8]) -> usize
     match words::named(&line[0..end]) {
         Word::Digit => digit::digit(&line[from..], out),
         Word::Test => messages::test(&line[from..], out),
+        Word::Ask => messages::ask(&line[from..], out),
+        Word::Add => messages::add(&line[from..], room, out),
         Word::Draw(kind) => symbols::draw(kind, &line[from..], room, out),
         Word::Read(kind) => symbols::read(kind, &line[from..], room, out),
         Word::Room => no_such_call(out),

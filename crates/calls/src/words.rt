@@ -7,6 +7,8 @@ pub enum Word {
     Room,
     Digit,
     Test,
+    Ask,
+    Add,
     Draw(Kind),
     Read(Kind),
     Other,
@@ -21,6 +23,12 @@ pub fn named(bytes: &[u8]) -> Word {
     }
     if is_word(bytes, b"test") {
         return Word::Test;
+    }
+    if is_word(bytes, b"ask") {
+        return Word::Ask;
+    }
+    if is_word(bytes, b"add") {
+        return Word::Add;
     }
     symbol_named(bytes)
 }

@@ -1,4 +1,4 @@
--- Laws of the rules, in the order in which they build on each other; then theorem 4 in both directions, and the examples.
+-- Laws of the rules, in the order in which they build on each other; then theorems 4 and 5, and the examples.
 pub mod AmongLaws
 pub mod ListedLaws
 pub mod SpelledLaws
@@ -11,6 +11,11 @@ pub mod CutLaws
 pub mod PlainLaws
 pub mod FromRule
 pub mod FromRelation
+pub mod AskLaws
+pub mod AddLaws
 pub mod TenStrings
 pub mod Theorems
+pub mod AskedData
+pub mod AddedStrings
+pub mod AddRefusals
 pub mod Examples

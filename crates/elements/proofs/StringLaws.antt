@@ -109,7 +109,7 @@ pub record FoundAt (message : List ℕ) (at : ℕ) (string : Element) : Type 0 w
   pub right : rightData kind (dataOf kind (drop (at + length (spelled (string .identifier))) message)) ≡ true
   pub made-of : string ≡ elementOf message (string .identifier) kind (at + length (spelled (string .identifier)))
 
-given-made : {A : Type 0} (o : Option A) (f : Refusal) (a : A) → given o f ≡ made a → o ≡ some a
+pub given-made : {A : Type 0} (o : Option A) (f : Refusal) (a : A) → given o f ≡ made a → o ≡ some a
 given-made none f a e = absurd (let z : _≡_ {A = ℕ} 0 1 = cc in omega arith)
 given-made (some b) f a e = cc
 

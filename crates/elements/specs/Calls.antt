@@ -1,10 +1,12 @@
 -- What the inner calls answer, in the terms of the rules.
-use Prim.Native.Nat.{ℕ}
-use mathlib.Core.Bool.{Bool, true, cond, _&&_}
-use mathlib.Core.List.{List, [], _∷_}
+use Prim.Native.Nat.{ℕ, _+_}
+use mathlib.Core.Bool.{Bool, true, cond, not, _&&_}
+use mathlib.Core.List.{List, [], _∷_, map}
 use mathlib.Core.Option.{Option, some, none}
+use lib.ListN.{length}
 use lib.Dec.{leb, eqb}
-use Rattle.refusal.specs.Outcome.{Outcome, made, refused}
+use Rattle.refusal.specs.declared.Refusal.the-variants.{Identifier, Data, Repeated, Sequence}
+use Rattle.refusal.specs.Outcome.{Outcome, made, refused, _>>=_, _>>_, must}
 use Rattle.elements.specs.declared.Element.{Element}
 use Rattle.elements.specs.declared.Found.{Found}
 use Rattle.elements.specs.declared.Found.the-variants.{String, Refused}
@@ -14,7 +16,10 @@ use Rattle.elements.specs.declared.identifiers.Kind.{Kind}
 use Rattle.elements.specs.declared.identifiers.Row.{Row}
 use Rattle.elements.specs.declared.identifiers.Row.the-variants.{Listed, Unlisted}
 use Rattle.elements.specs.Characters.{among}
-use Rattle.elements.specs.Identifiers.{kindOf, identifierIn}
+use Rattle.elements.specs.Identifiers.{kindOf, spelled, identifierIn}
+use Rattle.elements.specs.Data.{rightData}
+use Rattle.elements.specs.Strings.{given}
+use Rattle.elements.specs.Adding.{sofar, closed}
 
 -- how many digits the identifiers have that begin with these two
 unfoldable pub digitsAfter : ℕ → ℕ
@@ -49,3 +54,19 @@ sized kind = sizedAs (kind .content) kind
 abbrev pub foundOf : Outcome Element → Found
 foundOf (made string) = String string
 foundOf (refused f) = Refused f
+
+-- adding an identifier to strings that end at `size`: how many bytes stand before it, unless it was used
+unfoldable pub unusedIn : List Element → ℕ → ℕ → Outcome ℕ
+unusedIn strings identifier size = do
+  must (not (among (map (λ s. s .identifier) strings) identifier)) (Repeated size)
+  made (length (closed strings))
+
+-- the same once everything but the room was tested
+unfoldable pub judged : List ℕ → ℕ → List ℕ → Outcome ℕ
+judged old identifier content = do
+  strings ← sofar old
+  kind ← given (kindOf identifier) (Identifier (length old))
+  must (rightData kind content) (Data (length old))
+  closing ← unusedIn strings identifier (length old)
+  must (leb (length old + closing + length (spelled identifier) + length content) 48) Sequence
+  made closing

@@ -108,6 +108,36 @@ pub fn digits_of(identifier: usize) -> usize
     4
 }
 
+// An identifier as its digits, in the first places.
+pub fn spelling(identifier: usize) -> [u8; 4]
+    requires { ⌜ identifier < 10000 ⌝ }
+    ensures { λ r. ⌜ take (length (spelled identifier)) r ≡ spelled identifier ⌝ }
+{
+    let last = digit_byte(identifier % 10);
+    let tens = identifier / 10;
+    if identifier < 100 {
+        return [digit_byte(tens), last, 0, 0];
+    }
+    let second = digit_byte(tens % 10);
+    let hundreds = identifier / 100;
+    if identifier < 1000 {
+        return [digit_byte(hundreds), second, last, 0];
+    }
+    [
+        digit_byte(identifier / 1000),
+        digit_byte(hundreds % 10),
+        second,
+        last,
+    ]
+}
+
+fn digit_byte(value: usize) -> u8
+    requires { ⌜ value < 10 ⌝ }
+    ensures { λ r. ⌜ r ≡ 48 + value ⌝ }
+{
+    b'0' + value as u8
+}
+
 // The row of the listed identifier that some bytes begin with: its first two digits say how many it has.
 pub fn row_at(bytes: &[u8]) -> Row
     ensures { λ r. ⌜ r ≡ rowAt (now (bytes .entry)) ⌝ }

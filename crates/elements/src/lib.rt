@@ -1,14 +1,18 @@
-// Element strings: one at a time, and the test of a whole message.
+// Element strings: one at a time, the test of a whole message, asking one for an identifier, and adding to one.
 ghost use mathlib.Core.Path.{_≡_};
 ghost use Prim.Native.Nat.{_≤_};
 ghost use lib.ListN.{length};
-ghost use Rattle.refusal.specs.Fills.{answerOf};
+ghost use Rattle.refusal.specs.Fills.{answered, answerOf, Fills};
 ghost use Rattle.elements.specs.Strings.{stringAt, tested};
+ghost use Rattle.elements.specs.Asking.{asked, partOf, lengthOf};
+ghost use Rattle.elements.specs.Adding.{adds};
 ghost use Rattle.elements.specs.Calls.{foundOf};
 use crate::identifiers::Row;
 use refusal::Answer;
 use refusal::Refusal;
 
+mod adding;
+mod asking;
 pub mod characters;
 mod contents;
 mod identifiers;
@@ -46,6 +50,55 @@ pub fn test(message: &[u8]) -> Answer
         return Answer::Refused(Refusal::Character(place));
     }
     messages::count(message)
+}
+
+// The data of an identifier's element string, as that part of the message itself; an empty part where there is none.
+pub fn ask(message: &[u8], identifier: usize) -> &[u8]
+    ensures { λ r. ⌜ now r ≡ partOf (now (message .entry)) (asked (now (message .entry)) identifier) ⌝ }
+{
+    let Found::String(element) = asking::find(message, identifier) else {
+        return &message[..0];
+    };
+    let start = element.begin;
+    let end = start + element.length;
+    &message[start..end]
+}
+
+// The length of what `ask` gives; or refusal 1, 2, 9, 10, 11 or 13.
+pub fn asked(message: &[u8], identifier: usize) -> Answer
+    ensures { λ r. ⌜ r ≡ answered (lengthOf (asked (now (message .entry)) identifier)) ⌝ }
+{
+    let found = asking::find(message, identifier);
+    match found {
+        Found::String(element) => Answer::Done(element.length),
+        Found::Refused(refusal) => Answer::Refused(refusal),
+    }
+}
+
+// Adds an element string to the message of so many bytes in a buffer: the new length; or refusal 1, 2, 9, 10, 11, 8 or 12, tested in
+// that order.
+pub fn add(buffer: &mut [u8], length: usize, identifier: usize, content: &[u8]) -> Answer
+    ensures { λ r. ⌜ Fills (adds (now (buffer .entry)) length identifier (now (content .entry))) (now (buffer .entry)) r (now (buffer .exit)) ⌝ }
+{
+    if 48 < length {
+        return Answer::Refused(Refusal::Count);
+    }
+    if buffer.len() < length {
+        return Answer::Refused(Refusal::Count);
+    }
+    let judged = adding::judge(&buffer[..length], identifier, content);
+    let Answer::Done(closing) = judged else {
+        return judged;
+    };
+    let mut message = [0u8; 48];
+    let count = adding::compose(
+        &buffer[..length],
+        closing,
+        identifier,
+        content,
+        &mut message,
+    );
+    refusal::lay(&message[..count], buffer)
 }
 
 // The element string that must begin at a place, or refusal 9 or 10.
