@@ -104,6 +104,10 @@ only-tested message =
     only-must (leb 1 (length message) && leb (length message) 48) Count _ refl
     (only-must (eqb (firstNot isMessageByte message) (length message)) (Character (firstNot isMessageByte message)) _ refl (only-strings (suc (length message)) message 0 []))
 
+-- Refusal 12 is never the test's own.
+pub tested-has-room : (message : List ℕ) → tested message ≡ refused Room → ⊥
+tested-has-room message e = let own : false ≡ true = only-tested message Room e in let z : _≡_ {A = ℕ} 0 1 = cc in omega arith
+
 only-sofar : (old : List ℕ) → Only (sofar old)
 only-sofar [] = only-made []
 only-sofar (byte ∷ bytes) = only-tested (byte ∷ bytes)

@@ -12,10 +12,12 @@ pub mod PlainLaws
 pub mod FromRule
 pub mod FromRelation
 pub mod AskLaws
+pub mod SplitLaws
 pub mod AddLaws
 pub mod TenStrings
 pub mod Theorems
 pub mod AskedData
 pub mod AddedStrings
 pub mod AddRefusals
+pub mod SplitStrings
 pub mod Examples

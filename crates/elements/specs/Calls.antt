@@ -6,10 +6,14 @@ use mathlib.Core.Option.{Option, some, none}
 use lib.ListN.{length}
 use lib.Dec.{leb, eqb}
 use Rattle.refusal.specs.declared.Refusal.the-variants.{Identifier, Data, Repeated, Sequence}
+use Rattle.refusal.specs.declared.Answer.the-variants.{Done, Refused as NotDone}
 use Rattle.refusal.specs.Outcome.{Outcome, made, refused, _>>=_, _>>_, must}
 use Rattle.elements.specs.declared.Element.{Element}
 use Rattle.elements.specs.declared.Found.{Found}
 use Rattle.elements.specs.declared.Found.the-variants.{String, Refused}
+use Rattle.elements.specs.declared.Record.{Record}
+use Rattle.elements.specs.declared.records.Located.{Located}
+use Rattle.elements.specs.declared.records.Plan.{Plan}
 use Rattle.elements.specs.declared.identifiers.Content.{Content}
 use Rattle.elements.specs.declared.identifiers.Content.the-variants.{DigitsWithCheck, Date, Digits, Text}
 use Rattle.elements.specs.declared.identifiers.Kind.{Kind}
@@ -20,6 +24,7 @@ use Rattle.elements.specs.Identifiers.{kindOf, spelled, identifierIn}
 use Rattle.elements.specs.Data.{rightData}
 use Rattle.elements.specs.Strings.{given}
 use Rattle.elements.specs.Adding.{sofar, closed}
+use Rattle.elements.specs.Splitting.{recordOf}
 
 -- how many digits the identifiers have that begin with these two
 unfoldable pub digitsAfter : ℕ → ℕ
@@ -70,3 +75,17 @@ judged old identifier content = do
   closing ← unusedIn strings identifier (length old)
   must (leb (length old + closing + length (spelled identifier) + length content) 48) Sequence
   made closing
+
+-- a record that nothing was written to
+abbrev pub blankRecord : Record
+blankRecord = record { identifier = 0; begin = 0; length = 0 }
+
+-- splitting: how many records are written, and the answer
+abbrev pub planOf : Outcome (List Record) → Plan
+planOf (made records) = record { count = length records; answer = Done (length records) }
+planOf (refused f) = record { count = 0; answer = NotDone f }
+
+-- the record of the element string at a place, and where the next one must begin
+abbrev pub locatedOf : Outcome Element → Located
+locatedOf (made string) = record { string = recordOf string; next = string .next }
+locatedOf (refused f) = record { string = blankRecord; next = 0 }

@@ -11,8 +11,10 @@
 --   named, asked, partOf, lengthOf                Asking        the string of an identifier, the part and the length of its data: refusal 13
 --   sofar, closed, added, adds                    Adding        a message with one more string, in a buffer: refusals 1, 2, 9, 10, 11, 8, 12
 --   SoFar, addedAll                               Adding        the message so far as a relation; strings added one by one
+--   recordOf, splits, stringIn                    Splitting     the record of an element string; a whole message split: refusals 1, 2, 9, 10, 11, 12
 --   rowOf, rowAt, sized, foundOf                  Calls         what the inner calls answer
 --   unusedIn, judged                              Calls         the same, in adding
+--   blankRecord, planOf, locatedOf                Calls         the same, in splitting
 pub mod Characters
 pub mod Identifiers
 pub mod Data
@@ -20,4 +22,5 @@ pub mod Strings
 pub mod Messages
 pub mod Asking
 pub mod Adding
+pub mod Splitting
 pub mod Calls

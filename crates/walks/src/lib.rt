@@ -1,0 +1,1 @@
+// No code: steps that the hand-written walks of functions share.
