@@ -8,3 +8,12 @@ pub mod PutsLaws
 pub mod StepLaws
 pub mod DecodedLaws
 pub mod MatchingLaws
+pub mod OrderLaws
+pub mod MeaningLaws
+pub mod BestLaws
+pub mod BestSpelled
+pub mod Shortest
+pub mod First
+pub mod ChoiceLaws
+pub mod StateLaws
+pub mod ForwardLaws

@@ -40,7 +40,12 @@ pub fn put_pattern(value: usize, to: &mut [u8])
     ensures { λ _. ⌜ now (to .exit) ≡ getD patterns value [] ⌝ }
 {
     let widths = pattern_of(value);
-    refusal::lay(&widths, to);
+    to[0] = widths[0];
+    to[1] = widths[1];
+    to[2] = widths[2];
+    to[3] = widths[3];
+    to[4] = widths[4];
+    to[5] = widths[5];
 }
 
 // The value of the first six widths, judged on their own. Only one pattern can be theirs: its value is looked up, and the widths are

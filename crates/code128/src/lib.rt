@@ -1,4 +1,4 @@
-// Code 128: the symbol characters, the check, and the readers of sets A, B and C.
+// Code 128: the symbol characters, the check, the readers of sets A, B and C, and the best spelling.
 ghost use mathlib.Core.Path.{_≡_};
 ghost use mathlib.Core.List.{[]};
 ghost use lib.ListN.{length};
@@ -11,6 +11,7 @@ use refusal::Refusal;
 pub mod characters;
 pub mod check;
 mod readers;
+pub mod spelling;
 mod tables;
 
 // The message that a start and the values after the first FNC1 spell: its bytes, or refusal 8 or 12.

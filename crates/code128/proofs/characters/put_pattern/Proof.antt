@@ -1,44 +1,91 @@
--- `code128::characters::put_pattern` meets its contract: a pattern of six widths fills six places.
-use mathlib.Core.Path.{_≡_, ap, _∙_}
+-- `code128::characters::put_pattern` meets its contract: six stores copy a pattern of six widths.
 use Prim.Native.Nat.{ℕ}
-use mathlib.Core.List.{List, _++_, append-nil}
+use mathlib.Core.Path.{_≡_, sym, ap, _∙_}
+use mathlib.Core.List.{List, []}
 use native.Mathlib.Omega.{arith}
-use lib.ListN.{length, drop-of-length-le}
+use lib.ListN.{length, getD, set, length-set}
 use borrow.Author.Needs.{needs}
-use Rattle.refusal.specs.Outcome.{Outcome}
-use Rattle.refusal.specs.Fills.{laid, laying}
-use Rattle.refusal.proofs.FillsLaws.{laying-made}
+use Rattle.laws.proofs.Copying.{copied-more, copied-whole}
 use Rattle.code128.proofs.PatternLaws.{pattern-length}
 use Rattle.code128.proofs.characters.put_pattern.Statement.{statement}
 use Rattle.code128.proofs.characters.put_pattern.Tie as tie
 
+six-copied : (ws to : List ℕ) → length ws ≡ 6 → length to ≡ 6 → set (set (set (set (set (set to 0 (getD ws 0 0)) 1 (getD ws 1 0)) 2 (getD ws 2 0)) 3 (getD ws 3 0)) 4 (getD ws 4 0)) 5 (getD ws 5 0) ≡ ws
+six-copied ws to hw ht =
+    rw (
+      copied-more ws to 0 0 (omega arith) (omega arith),
+      copied-more ws to 1 0 (omega arith) (omega arith),
+      copied-more ws to 2 0 (omega arith) (omega arith),
+      copied-more ws to 3 0 (omega arith) (omega arith),
+      copied-more ws to 4 0 (omega arith) (omega arith),
+      copied-more ws to 5 0 (omega arith) (omega arith),
+    )
+    (copied-whole ws to 6 (omega arith) (omega arith))
+
 pattern-of-requires : tie.Need-pattern-of-requires
 pattern-of-requires c κs = search needs
 
-slice-aggregate-lay : tie.Need-slice-aggregate-lay
-slice-aggregate-lay c = search needs
+array-read-to : tie.Need-array-read-to
+array-read-to c = search needs
 
-lay-requires : tie.Need-lay-requires
-lay-requires c κs = search needs
+slice-write-to : tie.Need-slice-write-to
+slice-write-to c = search needs
+
+array-read-to-2 : tie.Need-array-read-to-2
+array-read-to-2 c = search needs
+
+slice-write-to-2 : tie.Need-slice-write-to-2
+slice-write-to-2 c = search needs
+
+array-read-to-3 : tie.Need-array-read-to-3
+array-read-to-3 c = search needs
+
+slice-write-to-3 : tie.Need-slice-write-to-3
+slice-write-to-3 c = search needs
+
+array-read-to-4 : tie.Need-array-read-to-4
+array-read-to-4 c = search needs
+
+slice-write-to-4 : tie.Need-slice-write-to-4
+slice-write-to-4 c = search needs
+
+array-read-to-5 : tie.Need-array-read-to-5
+array-read-to-5 c = search needs
+
+slice-write-to-5 : tie.Need-slice-write-to-5
+slice-write-to-5 c = simp length-set (omega arith)
+
+array-read-to-6 : tie.Need-array-read-to-6
+array-read-to-6 c = search needs
+
+slice-write-to-6 : tie.Need-slice-write-to-6
+slice-write-to-6 c = simp length-set (omega arith)
 
 same-length : tie.Need-same-length
-same-length c = search needs
-
--- what six widths leave of six places
-filled : (row before after : List ℕ) → length row ≡ 6 → length before ≡ 6 → after ≡ laid (laying row (length before)) before → after ≡ row
-filled row before after six room e =
-    e
-    ∙ ap (λ (o : Outcome (List ℕ)). laid o before) (laying-made row (length before) (omega arith))
-    ∙ ap (λ (rest : List ℕ). row ++ rest) (drop-of-length-le before {i = length row} (omega arith))
-    ∙ append-nil row
+same-length c = simp length-set
 
 returns : tie.Need-returns
 returns c =
-    let args = c .before .before .before .before .before .before .before .args in
-    let row = c .before .before .before .before .before .pattern-of in
-    let six = ap length (row .ensures) ∙ pattern-length (args .value) (omega arith) in
-    filled (row .result) (args .to .now) (c .before .before .lay .last .1 .0) six (omega arith) (c .before .before .lay .ensures .lent) ∙ row .ensures
+    let start = c .before .before in
+    let six : length (c .pattern-of .result) ≡ 6 = ap length (c .pattern-of .ensures) ∙ pattern-length (start .args .value) (start .pre .0) in
+    six-copied (c .pattern-of .result) (start .args .to .now) six (start .pre .1) ∙ c .pattern-of .ensures
 
 pub put-pattern-spec : {M : Type 1} → statement M
 put-pattern-spec =
-    tie.close (tie.spec pattern-of-requires slice-aggregate-lay lay-requires same-length returns)
+    tie.close
+    (tie.spec
+    pattern-of-requires
+    array-read-to
+    slice-write-to
+    array-read-to-2
+    slice-write-to-2
+    array-read-to-3
+    slice-write-to-3
+    array-read-to-4
+    slice-write-to-4
+    array-read-to-5
+    slice-write-to-5
+    array-read-to-6
+    slice-write-to-6
+    same-length
+    returns)
