@@ -1,0 +1,38 @@
+-- Characters drawn at the front of a list and the stop after them: they fill it as far as the widths of the symbol go.
+use Prim.Native.Nat.{ℕ, _+_, _*_, _≤_}
+use mathlib.Core.Path.{_≡_, sym, ap, ap₂, _∙_}
+use mathlib.Core.List.{List, [], _++_, append-assoc}
+use native.Mathlib.Omega.{arith}
+use lib.ListN.{length, take, drop, drop-of-length-le, length-append, length-take, length-drop}
+use lib.Seq.{take-at, drop-at, drop-drop}
+use Rattle.laws.specs.Below.{Below}
+use Rattle.refusal.specs.Outcome.{Outcome}
+use Rattle.refusal.specs.Fills.{laid, laying}
+use Rattle.refusal.proofs.FillsLaws.{laying-made}
+use Rattle.patterns.specs.Patterns.{drawn}
+use Rattle.patterns.proofs.CharacterLaws.{length-of-drawn}
+use Rattle.code128.specs.Characters.{patterns, stop}
+use Rattle.code128.proofs.PatternLaws.{patterns-are, patterns-sized}
+
+module _ (characters : List ℕ) (below : Below 106 characters) where
+  pub length-drawn : length (drawn patterns characters) ≡ 6 * length characters
+  length-drawn = length-of-drawn patterns 6 patterns-sized characters (rw patterns-are below)
+
+  pub length-stopped : length (drawn patterns characters ++ stop) ≡ 6 * length characters + 7
+  length-stopped = length-append (drawn patterns characters) stop ∙ ap (λ (n : ℕ). n + 7) length-drawn
+
+-- `front` and then `stopped`, which holds the stop, written over a list
+module _ (front widths : List ℕ) (end : ℕ) (fits : end + 7 ≤ length widths) (ends : length front ≡ end) (m k : ℕ) (em : m ≡ end) (ek : k ≡ 7) where
+  abbrev so-far : List ℕ
+  so-far = front ++ drop m widths
+
+  pub filled : (stopped : List ℕ) → stopped ≡ laid (laying stop (length (take k (drop end so-far)))) (take k (drop end so-far)) → take end so-far ++ (stopped ++ drop k (drop end so-far)) ≡ (front ++ stop) ++ drop (end + 7) widths
+  filled stopped e =
+      let back : drop end so-far ≡ drop m widths = drop-at front (drop m widths) end ends in
+      let seven : length (take k (drop end so-far)) ≡ 7 = ap (λ (l : List ℕ). length (take k l)) back ∙ simp (length-take, length-drop) (omega arith) in
+      let none : drop 7 (take k (drop end so-far)) ≡ [] = drop-of-length-le (take k (drop end so-far)) {i = 7} (omega arith) in
+      let last : stopped ≡ stop = e ∙ ap (λ (o : Outcome (List ℕ)). laid o (take k (drop end so-far))) (laying-made stop (length (take k (drop end so-far))) (omega arith)) ∙ ap (λ (l : List ℕ). stop ++ l) none in
+      let over : m + k ≡ end + 7 = omega arith in
+      let rest : drop k (drop end so-far) ≡ drop (end + 7) widths = ap (drop k) back ∙ drop-drop k m widths ∙ ap (λ (n : ℕ). drop n widths) over in
+      ap₂ (λ (a b : List ℕ). a ++ b) (take-at front (drop m widths) end ends) (ap₂ (λ (a b : List ℕ). a ++ b) last rest)
+      ∙ sym (append-assoc front stop (drop (end + 7) widths))

@@ -1,0 +1,83 @@
+-- `Gs1128::read` meets its promise: the message is made in a list of the call's own, and laid into the lent one last.
+use Prim.Native.Nat.{ℕ, _≤_}
+use mathlib.Core.Path.{_≡_, sym, _∙_}
+use mathlib.Core.List.{List}
+use lib.ListN.{length, take}
+use lib.Seq.{length-take-le}
+use borrow.Author.Needs.{needs}
+use Rattle.refusal.specs.declared.Answer.the-variants.{Refused}
+use Rattle.refusal.specs.Outcome.{made}
+use Rattle.refusal.proofs.FillsLaws.{refused-of-answer, fills-passed, fills-same}
+use Rattle.gs1_128.specs.Calls.{messageIn}
+use Rattle.gs1_128.proofs.OwnLaws.{own-front}
+use Rattle.gs1_128.proofs.StageLaws.{reads-refused, reads-laying}
+use Rattle.gs1_128.proofs.Gs1128.read.Statement.{statement}
+use Rattle.gs1_128.proofs.Gs1128.read.Tie as tie
+
+slice-aggregate-message-in : tie.Need-slice-aggregate-message-in
+slice-aggregate-message-in c = search needs
+
+message-in-requires : tie.Need-message-in-requires
+message-in-requires c κs = search needs
+
+enum-known-read : tie.Need-enum-known-read
+enum-known-read c = search needs
+
+enum-told : tie.Need-enum-told
+enum-told c = search needs
+
+returns : tie.Need-returns
+returns c =
+    let at = c .before .before .before in
+    let args = at .before .before .before .before .args in
+    let f = c .enum-told .given .0 .0 in
+    let is : at .message-in .result ≡ Refused f = c .enum-told .given .1 in
+    fills-passed _ f _ (at .message-in .result) is
+    (reads-refused (args .widths .now) (length (args .message .now)) f (refused-of-answer _ f (sym is ∙ at .message-in .ensures .answer)))
+
+-- where there is a message
+module _ (c : tie.After-known-told) where
+  abbrev widths : List ℕ
+  widths = c .before .before .before .before .before .before .before .before .args .widths .now
+
+  abbrev own : List ℕ
+  own = c .before .before .before .before .message-in .last .1 .0
+
+  abbrev count : ℕ
+  count = c .before .read .given .0 .0
+
+  front : (messageIn widths ≡ made (take count own)) × (count ≤ length own)
+  front = own-front _ _ own (c .before .before .before .before .message-in .result) count (c .before .read .given .1) (c .before .before .before .before .message-in .ensures)
+
+array-share-prefix-text : tie.Need-array-share-prefix-text
+array-share-prefix-text c = front c .1
+
+slice-aggregate-lay : tie.Need-slice-aggregate-lay
+slice-aggregate-lay c = sym (length-take-le (count (c .before)) (own (c .before)) (front (c .before) .1))
+
+lay-requires : tie.Need-lay-requires
+lay-requires c κs = search needs
+
+same-length : tie.Need-same-length
+same-length c = search needs
+
+returns-2 : tie.Need-returns-2
+returns-2 c =
+    let told = c .before .before .before .before .before in
+    let room = length (told .before .before .before .before .before .before .before .before .args .message .now) in
+    fills-same _ _ _ _ _ (reads-laying (widths told) room (take (count told) (own told)) (front told .0)) (c .before .before .lay .ensures)
+
+pub read-spec : {M : Type 1} → statement M
+read-spec =
+    tie.close
+    (tie.spec
+    slice-aggregate-message-in
+    message-in-requires
+    enum-known-read
+    enum-told
+    returns
+    array-share-prefix-text
+    slice-aggregate-lay
+    lay-requires
+    same-length
+    returns-2)

@@ -1,0 +1,112 @@
+-- `Gs1128::write` meets its promise: what the test of the message refuses is passed on, and what is drawn are the characters of the best
+-- spelling.
+use Prim.Native.Nat.{ℕ, _-_}
+use mathlib.Core.Path.{_≡_, refl, sym, ap, _∙_}
+use mathlib.Core.List.{List, _++_}
+use native.Mathlib.Omega.{arith}
+use lib.ListN.{length, take}
+use borrow.Author.Needs.{needs}
+use Rattle.refusal.specs.declared.Answer.the-variants.{Refused}
+use Rattle.refusal.specs.Outcome.{made}
+use Rattle.refusal.specs.Fills.{laying}
+use Rattle.refusal.proofs.FillsLaws.{refused-of-answer, made-of-answer, fills-passed, fills-same}
+use Rattle.elements.specs.declared.Element.{Element}
+use Rattle.elements.specs.Strings.{tested}
+use Rattle.patterns.specs.Patterns.{drawn}
+use Rattle.code128.specs.Characters.{patterns, stop}
+use Rattle.code128.specs.Best.{bestSpelling}
+use Rattle.gs1_128.specs.Symbol.{checked}
+use Rattle.gs1_128.proofs.WrittenLaws.{Sound, sound-if-tested, write-refused, write-made, characters-have-patterns, characters-are-few, symbol-of-best}
+use Rattle.gs1_128.proofs.Gs1128.write.Statement.{statement}
+use Rattle.gs1_128.proofs.Gs1128.write.Tie as tie
+
+test-requires : tie.Need-test-requires
+test-requires c κs = search needs
+
+enum-told : tie.Need-enum-told
+enum-told c = search needs
+
+enum-told-2 : tie.Need-enum-told-2
+enum-told-2 c = search needs
+
+returns : tie.Need-returns
+returns c =
+    let start = c .before .before .before .before .before in
+    let message = start .args .message .now in
+    let f = c .enum-told2 .given .0 .0 in
+    let test = c .before .before .test in
+    let is : test .result ≡ Refused f = c .enum-told2 .given .1 in
+    fills-passed _ f _ (test .result) is (write-refused message _ f (refused-of-answer (tested message) f (sym is ∙ test .ensures)))
+
+-- where the message has passed
+module _ (c : tie.After-enum-told) where
+  abbrev message : List ℕ
+  message = c .before .before .before .before .before .args .message .now
+
+  passed : (strings : List Element) × (tested message ≡ made strings) × (length strings ≡ c .enum-told .given .0 .0)
+  passed = made-of-answer (tested message) (c .enum-told .given .0 .0) (sym (c .enum-told .given .1) ∙ c .before .before .test .ensures)
+
+  sound : Sound message
+  sound = sound-if-tested message (passed .0) (passed .1)
+
+slice-aggregate-characters-of : tie.Need-slice-aggregate-characters-of
+slice-aggregate-characters-of c = search needs
+
+characters-of-requires : tie.Need-characters-of-requires
+characters-of-requires c κs = let s = sound (c .before) in (s .most, (s .plain, refl))
+
+-- the characters at the front of the call's own list
+front : (c : tie.After-characters-of) → take (c .characters-of .result - 0) (c .characters-of .last .1 .0) ≡ checked (bestSpelling (message (c .before .before)))
+front c =
+    let all : c .characters-of .result - 0 ≡ c .characters-of .result = omega arith in
+    ap (λ (n : ℕ). take n (c .characters-of .last .1 .0)) all ∙ c .characters-of .ensures .1
+
+sub-draw : tie.Need-sub-draw
+sub-draw c = search needs
+
+part-draw-start : tie.Need-part-draw-start
+part-draw-start c = search needs
+
+part-draw-end : tie.Need-part-draw-end
+part-draw-end c =
+    let made-them = c .before .before in
+    let told = made-them .before .before in
+    omega (arith, made-them .characters-of .ensures .0, made-them .characters-of .kept .1 .0, characters-are-few (message told) (sound told))
+
+draw-requires : tie.Need-draw-requires
+draw-requires c κs =
+    let made-them = c .before .before .before .before in
+    let told = made-them .before .before in
+    rw (front made-them) (characters-are-few (message told) (sound told), characters-have-patterns (message told) (sound told))
+
+same-length : tie.Need-same-length
+same-length c = search needs
+
+returns-2 : tie.Need-returns-2
+returns-2 c =
+    let made-them = c .before .before .before .before .before .before .before in
+    let told = made-them .before .before in
+    let room = length (told .before .before .before .before .before .args .widths .now) in
+    let own = take (made-them .characters-of .result - 0) (made-them .characters-of .last .1 .0) in
+    fills-same _ (laying (drawn patterns own ++ stop) room) _ _ _
+    (write-made (message told) room (passed told .0) (passed told .1)
+    ∙ ap (λ (widths : List ℕ). laying widths room)
+    (symbol-of-best (message told) (sound told) ∙ ap (λ (characters : List ℕ). drawn patterns characters ++ stop) (sym (front made-them))))
+    (c .before .before .draw .ensures)
+
+pub write-spec : {M : Type 1} → statement M
+write-spec =
+    tie.close
+    (tie.spec
+    test-requires
+    enum-told
+    enum-told-2
+    returns
+    slice-aggregate-characters-of
+    characters-of-requires
+    sub-draw
+    part-draw-start
+    part-draw-end
+    draw-requires
+    same-length
+    returns-2)

@@ -1,0 +1,138 @@
+-- `gs1_128::drawing::characters_of` meets its contract: the best spelling stands at the front of the list, a start and FNC1 first, so its check
+-- is that of the start and the rest of it, and goes to the place after it.
+use Prim.Native.Nat.{ℕ, suc, _+_, _-_, _≤_}
+use mathlib.Core.Path.{_≡_, sym, ap, _∙_}
+use mathlib.Core.List.{List, _∷_, _++_, append-assoc}
+use native.Mathlib.Omega.{arith}
+use lib.ListN.{length, getD, set, take, drop, length-append, length-take, length-drop}
+use borrow.Author.Needs.{needs}
+use Rattle.code128.specs.Best.{bestSpelling}
+use Rattle.code128.specs.Check.{checkOf}
+use Rattle.code128.specs.Spelling.{Spelled}
+use Rattle.code128.proofs.CheckLaws.{check-below}
+use Rattle.code128.proofs.BestLaws.{best-short}
+use Rattle.code128.proofs.BestSpelled.{best-is-spelled}
+use Rattle.gs1_128.specs.Symbol.{checked}
+use Rattle.gs1_128.proofs.WithCheckLaws.{first-is, values-are, length-checked, check-added}
+use Rattle.gs1_128.proofs.drawing.characters_of.Statement.{statement}
+use Rattle.gs1_128.proofs.drawing.characters_of.Tie as tie
+
+sub-spell : tie.Need-sub-spell
+sub-spell c = search needs
+
+part-spell-start : tie.Need-part-spell-start
+part-spell-start c = search needs
+
+part-spell-end : tie.Need-part-spell-end
+part-spell-end c = search needs
+
+spell-requires : tie.Need-spell-requires
+spell-requires c κs = search needs
+
+slice-read-check-of : tie.Need-slice-read-check-of
+slice-read-check-of c = search needs
+
+-- where the spelling stands at the front
+module _ (c : tie.After-slice-known3) where
+  abbrev message : List ℕ
+  message = c .before .before .before .before .before .before .before .args .message .now
+
+  abbrev before-it : List ℕ
+  before-it = c .before .before .before .before .before .before .before .args .characters .now
+
+  abbrev count : ℕ
+  count = c .before .before .before .spell .result
+
+  abbrev list : List ℕ
+  list = c .before .before .before .spell .last .1 .0 ++ drop 50 before-it
+
+  spelled : Spelled (bestSpelling message) message
+  spelled = best-is-spelled message (c .before .before .before .before .before .before .before .pre .1 .0)
+
+  abbrev behind : List ℕ
+  behind = drop count (take 50 before-it) ++ drop 50 before-it
+
+  is : list ≡ (spelled .start ∷ 102 ∷ spelled .values) ++ behind
+  is =
+      ap (λ (l : List ℕ). l ++ drop 50 before-it) (c .before .before .before .spell .ensures .1)
+      ∙ append-assoc (bestSpelling message) (drop count (take 50 before-it)) (drop 50 before-it)
+      ∙ ap (λ (l : List ℕ). l ++ behind) (spelled .is)
+
+  counts : count ≡ suc (length (102 ∷ spelled .values))
+  counts = c .before .before .before .spell .ensures .0 ∙ ap length (spelled .is)
+
+  few : count ≤ 50
+  few = omega (arith, c .before .before .before .spell .ensures .0, best-short message, c .before .before .before .before .before .before .before .pre .0)
+
+  long : length list ≡ 51
+  long =
+      let kept = c .before .before .before .spell .kept .1 .0 in
+      simp (length-append, length-drop) (omega (arith, simp (length-take, length-drop) at kept, c .before .before .before .before .before .before .before .pre .1 .1))
+
+  start-is : getD list 0 0 ≡ spelled .start
+  start-is = first-is list (spelled .start) (102 ∷ spelled .values) behind is count counts
+
+  rest-is : take (count - 1) (drop 1 list) ≡ 102 ∷ spelled .values
+  rest-is = values-are list (spelled .start) (102 ∷ spelled .values) behind is count counts
+
+  length-is : length (checked (bestSpelling message)) ≡ count + 1
+  length-is = ap (λ (l : List ℕ). length (checked l)) (spelled .is) ∙ length-checked list (spelled .start) (102 ∷ spelled .values) behind is count counts
+
+  added : (check : ℕ) → check ≡ checkOf (getD list 0 0) (take (count - 1) (drop 1 list)) → take (count + 1) (set list count check) ≡ checked (bestSpelling message)
+  added check e =
+      check-added list (spelled .start) (102 ∷ spelled .values) behind is count counts check e (omega (arith, few, long))
+      ∙ ap checked (sym (spelled .is))
+
+cast-check-of : tie.Need-cast-check-of
+cast-check-of c = omega (arith, start-is c, spelled c .most)
+
+sub-check-of : tie.Need-sub-check-of
+sub-check-of c = omega (arith, counts c)
+
+part-check-of-start : tie.Need-part-check-of-start
+part-check-of-start c = omega (arith, counts (c .before))
+
+part-check-of-end : tie.Need-part-check-of-end
+part-check-of-end c = omega (arith, few (c .before), long (c .before))
+
+check-of-requires : tie.Need-check-of-requires
+check-of-requires c κs =
+    let at = c .before .before in
+    (rw (start-is at) (omega (arith, spelled at .most)), rw (rest-is at) (omega (arith, counts at, few at)))
+
+cast-characters : tie.Need-cast-characters
+cast-characters c =
+    let at = c .before .before .before in
+    omega (arith, c .check-of .ensures, check-below (getD (list at) 0 0) (take (count at - 1) (drop 1 (list at))))
+
+slice-write-characters : tie.Need-slice-write-characters
+slice-write-characters c = omega (arith, few (c .before .before .before), long (c .before .before .before))
+
+add-result : tie.Need-add-result
+add-result c = omega (arith, few (c .before .before .before))
+
+same-length : tie.Need-same-length
+same-length c = search needs
+
+returns : tie.Need-returns
+returns c = let at = c .before .before .before in (sym (length-is at), added at (c .check-of .result) (c .check-of .ensures))
+
+pub characters-of-spec : {M : Type 1} → statement M
+characters-of-spec =
+    tie.close
+    (tie.spec
+    sub-spell
+    part-spell-start
+    part-spell-end
+    spell-requires
+    slice-read-check-of
+    cast-check-of
+    sub-check-of
+    part-check-of-start
+    part-check-of-end
+    check-of-requires
+    cast-characters
+    slice-write-characters
+    add-result
+    same-length
+    returns)

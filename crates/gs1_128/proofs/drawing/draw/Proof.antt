@@ -1,0 +1,99 @@
+-- `gs1_128::drawing::draw` meets its promise: the room is tested before the first store, and then the characters and the stop fill as many
+-- places as they have widths.
+use Prim.Native.Nat.{ℕ, _+_, _-_, _*_}
+use mathlib.Core.Path.{_≡_, sym, ap, ap₂, _∙_}
+use mathlib.Core.List.{List, _++_}
+use native.Mathlib.Omega.{arith}
+use lib.ListN.{length, drop, length-take}
+use borrow.Author.Needs.{needs}
+use Rattle.refusal.specs.declared.Answer.the-variants.{Done}
+use Rattle.refusal.specs.declared.Refusal.the-variants.{Room}
+use Rattle.refusal.specs.Outcome.{made}
+use Rattle.refusal.proofs.FillsLaws.{fills-refused, fills-same, laying-made, laying-refused}
+use Rattle.patterns.specs.Patterns.{drawn}
+use Rattle.code128.specs.Characters.{patterns, stop}
+use Rattle.gs1_128.proofs.DrawnLaws.{length-drawn, length-stopped, filled}
+use Rattle.gs1_128.proofs.drawing.draw.Statement.{statement}
+use Rattle.gs1_128.proofs.drawing.draw.Tie as tie
+
+mul-end : tie.Need-mul-end
+mul-end c = search needs
+
+add-count : tie.Need-add-count
+add-count c = search needs
+
+returns : tie.Need-returns
+returns c =
+    let start = c .before .before .before in
+    let characters = start .args .characters .now in
+    fills-refused _ Room _
+    (laying-refused (drawn patterns characters ++ stop) (length (start .args .widths .now)) (omega (arith, length-stopped characters (start .pre .1))))
+
+sub-draw-characters : tie.Need-sub-draw-characters
+sub-draw-characters c = search needs
+
+part-draw-characters-start : tie.Need-part-draw-characters-start
+part-draw-characters-start c = search needs
+
+part-draw-characters-end : tie.Need-part-draw-characters-end
+part-draw-characters-end c = search needs
+
+draw-characters-requires : tie.Need-draw-characters-requires
+draw-characters-requires c κs =
+    let start = c .before .before .before .before in
+    (start .pre .0, (start .pre .1, simp length-take (omega arith)))
+
+slice-aggregate-lay : tie.Need-slice-aggregate-lay
+slice-aggregate-lay c = search needs
+
+sub-lay : tie.Need-sub-lay
+sub-lay c = search needs
+
+part-lay-start : tie.Need-part-lay-start
+part-lay-start c = search needs
+
+part-lay-end : tie.Need-part-lay-end
+part-lay-end c = search needs
+
+lay-requires : tie.Need-lay-requires
+lay-requires c κs = search needs
+
+same-length : tie.Need-same-length
+same-length c = search needs
+
+returns-2 : tie.Need-returns-2
+returns-2 c =
+    let start = c .before .before .before .before .before .before .before .before .before .before .before .before in
+    let characters = start .args .characters .now in
+    let widths = start .args .widths .now in
+    let end = 6 * length characters in
+    let symbol = drawn patterns characters ++ stop in
+    let long = length-stopped characters (start .pre .1) in
+    let drawing = c .before .before .before .before .before .before .before .draw-characters in
+    fills-same _ (made symbol) widths _ _ (laying-made symbol (length widths) (omega arith))
+    (record {
+      answer = ap Done (sym long);
+      lent =
+          filled (drawing .last .1 .0) widths end (omega arith) (ap length (drawing .ensures) ∙ length-drawn characters (start .pre .1)) (end - 0) (end + 7 - end) (omega arith) (omega arith)
+          (c .before .before .lay .last .1 .0) (c .before .before .lay .ensures .lent)
+          ∙ ap₂ (λ (front : List ℕ) (n : ℕ). (front ++ stop) ++ drop n widths) (drawing .ensures) (sym long);
+    })
+
+pub draw-spec : {M : Type 1} → statement M
+draw-spec =
+    tie.close
+    (tie.spec
+    mul-end
+    add-count
+    returns
+    sub-draw-characters
+    part-draw-characters-start
+    part-draw-characters-end
+    draw-characters-requires
+    slice-aggregate-lay
+    sub-lay
+    part-lay-start
+    part-lay-end
+    lay-requires
+    same-length
+    returns-2)

@@ -1,0 +1,28 @@
+-- The rules of the two calls. Document 01: "Reading GS1-128 tests 1, 4, 5, 6, 7, 8, then the message's 9 to 11, then 12." Writing tests the
+-- message, 1, 2, 9, 10, 11, then 12; what it draws is the best spelling.
+use Prim.Native.Nat.{ℕ}
+use mathlib.Core.List.{List}
+use Rattle.refusal.specs.Outcome.{Outcome, made, _>>=_, _>>_}
+use Rattle.refusal.specs.Fills.{laying}
+use Rattle.elements.specs.Strings.{parsed, tested}
+use Rattle.code128.specs.Reading.{decoded}
+use Rattle.code128.specs.Best.{bestSpelling}
+use Rattle.gs1_128.specs.Symbol.{Scanned, symbolOf, scanned}
+
+-- the message that a list of widths holds
+unfoldable pub messageIn : List ℕ → Outcome (List ℕ)
+messageIn widths = do
+  symbol ← scanned widths
+  text ← decoded (symbol .start) (symbol .values)
+  strings ← parsed text
+  made text
+
+unfoldable pub reads : List ℕ → ℕ → Outcome (List ℕ)
+reads widths room = do
+  text ← messageIn widths
+  laying text room
+
+unfoldable pub writes : List ℕ → ℕ → Outcome (List ℕ)
+writes message room = do
+  strings ← tested message
+  laying (symbolOf (bestSpelling message)) room
