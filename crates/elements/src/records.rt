@@ -85,6 +85,7 @@ fn record_of(element: Element) -> Record
     }
 }
 
+// How many places of a list of twelve are lent.
 pub fn at_most_twelve(room: usize) -> usize
     ensures { λ r. ⌜ r ≡ min room 12 ⌝ }
 {
