@@ -1,6 +1,6 @@
 -- The reader's stages, one after the other, are the rule of the message: the same tests in the same order. So each stage that refuses
 -- gives the rule's refusal, and where none does the text is the message.
-use Prim.Native.Nat.{ℕ, _+_, _≤_, _<_}
+use Prim.Native.Nat.{ℕ, _+_, _<_}
 use mathlib.Core.Path.{_≡_, refl, sym, ap, _∙_}
 use mathlib.Core.Bool.{Bool, true, false}
 use mathlib.Core.List.{List}
@@ -16,9 +16,8 @@ use Rattle.refusal.specs.Fills.{laying}
 use Rattle.refusal.proofs.OutcomeLaws.{made-same, must-made, bind-made}
 use Rattle.elements.specs.declared.Element.{Element}
 use Rattle.elements.specs.Strings.{parsed, tested}
-use Rattle.patterns.specs.Patterns.{same, valueIn, characters}
+use Rattle.patterns.specs.Patterns.{valueIn, characters}
 use Rattle.patterns.proofs.CharacterLaws.{drawn-of-characters}
-use Rattle.code128.specs.Characters.{stop}
 use Rattle.code128.specs.Check.{checkOf}
 use Rattle.code128.specs.Reading.{decoded}
 use Rattle.gs1_128.specs.Symbol.{permitted, countOf, starts, allowed, guarded, startOf, Scanned, scanned}

@@ -1,7 +1,7 @@
 -- The starts are the patterns from 103 on, and the patterns allowed after the start are those before: so the value that widths have in the
 -- whole table, where no two patterns are equal, says which they have in either part.
 use Prim.Native.Nat.{ℕ, zero, suc, _+_, _≤_, _<_, min}
-use mathlib.Core.Path.{_≡_, refl, sym, ap, _∙_}
+use mathlib.Core.Path.{_≡_, refl, sym, _∙_}
 use mathlib.Core.Bool.{Bool, true, false, not, cond}
 use mathlib.Core.List.{List, [], _∷_}
 use native.Mathlib.Nat.{le-of-suc-le-suc}

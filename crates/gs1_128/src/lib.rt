@@ -60,7 +60,15 @@ impl Gs1128 {
         ensures { λ r. ⌜ Fills (reads (now (widths .entry)) (length (now (message .entry)))) (now (message .entry)) r (now (message .exit)) ⌝ }
     {
         let mut text = [0u8; Gs1128::BYTES];
-        let read = Gs1128::message_in(widths, &mut text);
+        Gs1128::read_in(widths, &mut text, message)
+    }
+
+    // Makes the message in a list of the call's own, and lays it in the lent one last.
+    fn read_in(widths: &[u8], text: &mut [u8], message: &mut [u8]) -> Answer
+        requires { ⌜ length (now text) ≡ 48 ⌝ }
+        ensures { λ r. ⌜ Fills (reads (now (widths .entry)) (length (now (message .entry)))) (now (message .entry)) r (now (message .exit)) ⌝ }
+    {
+        let read = Gs1128::message_in(widths, text);
         let Answer::Done(count) = read else {
             return read;
         };
@@ -92,7 +100,7 @@ impl Gs1128 {
     }
 
     // Whether a symbol can have so many widths.
-    fn permits(widths: usize) -> bool
+    pub fn permits(widths: usize) -> bool
         ensures { λ r. ⌜ r ≡ permitted widths ⌝ }
     {
         if widths < Gs1128::LEAST {

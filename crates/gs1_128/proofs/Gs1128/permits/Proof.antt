@@ -1,8 +1,4 @@
 -- `Gs1128::permits` meets its contract: its tests are the rule's.
-use Prim.Native.Nat.{_-_, _%_}
-use mathlib.Core.Path.{_≡_}
-use native.Mathlib.Omega.{arith}
-use lib.Dec.{leb}
 use borrow.Author.Needs.{needs}
 use borrow.Author.Tests.{le-leb, lt-leb}
 use Rattle.gs1_128.proofs.Gs1128.permits.Statement.{statement}

@@ -9,7 +9,7 @@ use lib.ListN.{length, take, drop, length-take, length-drop, length-set}
 use lib.Seq.{take-take, drop-drop}
 use Rattle.refusal.specs.declared.Refusal.the-variants.{Pattern}
 use Rattle.refusal.specs.Outcome.{refused}
-use Rattle.patterns.specs.Patterns.{valueIn, characters}
+use Rattle.patterns.specs.Patterns.{valueIn}
 use Rattle.gs1_128.specs.Symbol.{allowed}
 use Rattle.gs1_128.proofs.TableLaws.{allowed-are, allowed-matched, allowed-unmatched}
 use Rattle.gs1_128.proofs.OwnLaws.{own-filled, own-refused}

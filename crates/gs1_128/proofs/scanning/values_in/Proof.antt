@@ -1,6 +1,6 @@
 -- `scanning::values_in` meets its contract: the values that were scanned stand in the list, the last is compared with the check of the
 -- others, and then the first with FNC1, in the rule's order.
-use Prim.Native.Nat.{ℕ, _+_, _-_, _≤_}
+use Prim.Native.Nat.{ℕ, _+_, _-_}
 use mathlib.Core.Path.{_≡_, refl, sym, ap, _∙_}
 use mathlib.Core.List.{List}
 use native.Mathlib.Omega.{arith}

@@ -1,4 +1,4 @@
--- `Gs1128::read` meets its promise: the message is made in a list of the call's own, and laid into the lent one last.
+-- `Gs1128::read_in` meets its promise: the message is made in a list of the call's own, and laid into the lent one last.
 use Prim.Native.Nat.{ℕ, _≤_}
 use mathlib.Core.Path.{_≡_, sym, _∙_}
 use mathlib.Core.List.{List}
@@ -11,11 +11,8 @@ use Rattle.refusal.proofs.FillsLaws.{refused-of-answer, fills-passed, fills-sam
 use Rattle.gs1_128.specs.Calls.{messageIn}
 use Rattle.gs1_128.proofs.OwnLaws.{own-front}
 use Rattle.gs1_128.proofs.StageLaws.{reads-refused, reads-laying}
-use Rattle.gs1_128.proofs.Gs1128.read.Statement.{statement}
-use Rattle.gs1_128.proofs.Gs1128.read.Tie as tie
-
-slice-aggregate-message-in : tie.Need-slice-aggregate-message-in
-slice-aggregate-message-in c = search needs
+use Rattle.gs1_128.proofs.Gs1128.read_in.Statement.{statement}
+use Rattle.gs1_128.proofs.Gs1128.read_in.Tie as tie
 
 message-in-requires : tie.Need-message-in-requires
 message-in-requires c κs = search needs
@@ -26,10 +23,13 @@ enum-known-read c = search needs
 enum-told : tie.Need-enum-told
 enum-told c = search needs
 
+same-length : tie.Need-same-length
+same-length c = search needs
+
 returns : tie.Need-returns
 returns c =
-    let at = c .before .before .before in
-    let args = at .before .before .before .before .args in
+    let at = c .before .before .before .before in
+    let args = at .before .before .before .before .before .args in
     let f = c .enum-told .given .0 .0 in
     let is : at .message-in .result ≡ Refused f = c .enum-told .given .1 in
     fills-passed _ f _ (at .message-in .result) is
@@ -37,20 +37,26 @@ returns c =
 
 -- where there is a message
 module _ (c : tie.After-known-told) where
+  abbrev at : tie.After-message-in
+  at = c .before .before .before .before .before
+
+  abbrev start : tie.Start
+  start = at .before .before .before .before .before
+
   abbrev widths : List ℕ
-  widths = c .before .before .before .before .before .before .before .before .args .widths .now
+  widths = start .args .widths .now
 
   abbrev own : List ℕ
-  own = c .before .before .before .before .message-in .last .1 .0
+  own = at .message-in .last .1 .0
 
   abbrev count : ℕ
   count = c .before .read .given .0 .0
 
   front : (messageIn widths ≡ made (take count own)) × (count ≤ length own)
-  front = own-front _ _ own (c .before .before .before .before .message-in .result) count (c .before .read .given .1) (c .before .before .before .before .message-in .ensures)
+  front = own-front _ _ own (at .message-in .result) count (c .before .read .given .1) (at .message-in .ensures)
 
-array-share-prefix-text : tie.Need-array-share-prefix-text
-array-share-prefix-text c = front c .1
+slice-reshare-prefix-lay : tie.Need-slice-reshare-prefix-lay
+slice-reshare-prefix-lay c = front c .1
 
 slice-aggregate-lay : tie.Need-slice-aggregate-lay
 slice-aggregate-lay c = sym (length-take-le (count (c .before)) (own (c .before)) (front (c .before) .1))
@@ -58,26 +64,30 @@ slice-aggregate-lay c = sym (length-take-le (count (c .before)) (own (c .before)
 lay-requires : tie.Need-lay-requires
 lay-requires c κs = search needs
 
-same-length : tie.Need-same-length
-same-length c = search needs
+same-length-2 : tie.Need-same-length-2
+same-length-2 c = search needs
+
+same-length-3 : tie.Need-same-length-3
+same-length-3 c = search needs
 
 returns-2 : tie.Need-returns-2
 returns-2 c =
     let told = c .before .before .before .before .before in
-    let room = length (told .before .before .before .before .before .before .before .before .args .message .now) in
+    let room = length (start told .args .message .now) in
     fills-same _ _ _ _ _ (reads-laying (widths told) room (take (count told) (own told)) (front told .0)) (c .before .before .lay .ensures)
 
-pub read-spec : {M : Type 1} → statement M
-read-spec =
+pub read-in-spec : {M : Type 1} → statement M
+read-in-spec =
     tie.close
     (tie.spec
-    slice-aggregate-message-in
     message-in-requires
     enum-known-read
     enum-told
+    same-length
     returns
-    array-share-prefix-text
+    slice-reshare-prefix-lay
     slice-aggregate-lay
     lay-requires
-    same-length
+    same-length-2
+    same-length-3
     returns-2)
