@@ -1,0 +1,5 @@
+-- What a list tells of its kind; the theorems; the joint call as naming and reading; theorem 6 for an unnamed list.
+pub mod KindLaws
+pub mod Theorems
+pub mod ReadingLaws
+pub mod Damage

@@ -1,0 +1,41 @@
+-- Document 01: "The reader of an unnamed list chooses the kind by count, and its reading names the kind; 43 is EAN-8 if the first width is 1,
+-- else GS1-128. A count of no kind is refusal 1." The counts are those of document 01's list of kinds.
+use Prim.Native.Nat.{ℕ}
+use mathlib.Core.Bool.{cond}
+use mathlib.Core.List.{List}
+use lib.ListN.{length, getD}
+use lib.Dec.{eqb}
+use Rattle.refusal.specs.declared.Refusal.the-variants.{Count}
+use Rattle.refusal.specs.Outcome.{Outcome, made, refused, _>>_, must}
+use Rattle.ean.specs.Ean13.{reads13}
+use Rattle.ean.specs.Ean8.{reads8}
+use Rattle.itf.specs.Itf14.{reads14}
+use Rattle.gs1_128.specs.Symbol.{permitted}
+use Rattle.gs1_128.specs.Calls as Gs1
+use Rattle.symbols.specs.declared.Kind.{Kind}
+use Rattle.symbols.specs.declared.Kind.the-variants.{Ean13, Ean8, Itf14, Gs1128}
+use Rattle.symbols.specs.declared.Named.{Named}
+use Rattle.symbols.specs.declared.Named.the-variants.{As, Refused}
+
+-- the kind of a list of so many widths that begins with `first`
+abbrev pub kindBy : ℕ → ℕ → Outcome Kind
+kindBy count first =
+    cond (eqb count 59) (made Ean13)
+    (cond (eqb count 43) (made (cond (eqb first 1) Ean8 Gs1128))
+    (cond (eqb count 77) (made Itf14)
+    (must (permitted count) Count >> made Gs1128)))
+
+unfoldable pub kindOf : List ℕ → Outcome Kind
+kindOf widths = kindBy (length widths) (getD widths 0 0)
+
+-- the rule of the kind's own reader
+unfoldable pub readsAs : Kind → List ℕ → ℕ → Outcome (List ℕ)
+readsAs Ean13 = reads13
+readsAs Ean8 = reads8
+readsAs Itf14 = reads14
+readsAs Gs1128 = Gs1.reads
+
+-- the answer of the call that names the kind
+abbrev pub namedOf : Outcome Kind → Named
+namedOf (made kind) = As kind
+namedOf (refused f) = Refused f
