@@ -5,6 +5,7 @@ ghost use lib.ListN.{length};
 ghost use Rattle.calls.specs.Places.{Filled};
 use refusal::Answer;
 use refusal::Refusal;
+use symbols::Kind;
 
 // How a list is shown: a digit for each width, or the bytes of a number or a message, with `^` for a separator.
 pub enum Form {
@@ -64,6 +65,32 @@ pub fn put_counted(form: Form, list: &[u8], out: &mut [u8]) -> usize
     put_byte(b'\n', out, at)
 }
 
+// A whole line: the count of a list, the kind of the symbol that it was read from, and the list itself.
+pub fn put_named(kind: Kind, list: &[u8], out: &mut [u8]) -> usize
+    requires { ⌜ length (now list) ≤ 700 ⌝ }
+    requires { ⌜ 1024 ≤ length (now out) ⌝ }
+    ensures { λ r. ⌜ (0 < r) × (r ≤ 1024) ⌝ }
+{
+    let at = put_pair(0, list.len(), out);
+    let at = put_kind(kind, out, at);
+    let at = put_list(Form::Bytes, list, out, at);
+    put_byte(b'\n', out, at)
+}
+
+// A space, the word for a kind, and a space.
+fn put_kind(kind: Kind, out: &mut [u8], at: usize) -> usize
+    requires { ⌜ at + 7 ≤ length (now out) ⌝ }
+    ensures { λ r. ⌜ r ≤ at + 7 ⌝ }
+{
+    let to = &mut out[at..];
+    match kind {
+        Kind::Ean13 => at + bytes::copy(b" ean13 ", to),
+        Kind::Ean8 => at + bytes::copy(b" ean8 ", to),
+        Kind::Itf14 => at + bytes::copy(b" itf14 ", to),
+        Kind::Gs1128 => at + bytes::copy(b" gs1 ", to),
+    }
+}
+
 // A whole line that is the same for everyone.
 pub fn put_text(text: &[u8], out: &mut [u8]) -> usize
     requires { ⌜ (0 < length (now text)) × (length (now text) ≤ 1024) ⌝ }
@@ -74,7 +101,7 @@ pub fn put_text(text: &[u8], out: &mut [u8]) -> usize
 }
 
 // What every answer but an error begins with: two numbers, one space apart.
-fn put_pair(first: usize, second: usize, out: &mut [u8]) -> usize
+pub fn put_pair(first: usize, second: usize, out: &mut [u8]) -> usize
     requires { ⌜ 1024 ≤ length (now out) ⌝ }
     ensures { λ r. ⌜ r ≤ 41 ⌝ }
 {
@@ -83,14 +110,14 @@ fn put_pair(first: usize, second: usize, out: &mut [u8]) -> usize
     put_number(second, out, at)
 }
 
-fn put_number(n: usize, out: &mut [u8], at: usize) -> usize
+pub fn put_number(n: usize, out: &mut [u8], at: usize) -> usize
     requires { ⌜ at + 20 ≤ length (now out) ⌝ }
     ensures { λ r. ⌜ r ≤ at + 20 ⌝ }
 {
     at + text::put_number(n, &mut out[at..])
 }
 
-fn put_byte(byte: u8, out: &mut [u8], at: usize) -> usize
+pub fn put_byte(byte: u8, out: &mut [u8], at: usize) -> usize
     requires { ⌜ at < length (now out) ⌝ }
     ensures { λ r. ⌜ r ≡ at + 1 ⌝ }
 {

@@ -1,10 +1,11 @@
 // The desk's lines: a call and its arguments in, one line of answer out. Nothing here reads or writes anything but the bytes it is lent.
 mod answers;
 mod digit;
-mod kinds;
+mod drawing;
 mod messages;
+mod reading;
 mod room;
-mod symbols;
+mod splitting;
 mod widths;
 mod words;
 
@@ -72,10 +73,11 @@ fn call(line: &[u8], room: Room, out: &mut [u8]) -> usize
     match words::named(&line[0..end]) {
         Word::Digit => digit::digit(&line[from..], out),
         Word::Test => messages::test(&line[from..], out),
+        Word::Split => splitting::split(&line[from..], room, out),
         Word::Ask => messages::ask(&line[from..], out),
         Word::Add => messages::add(&line[from..], room, out),
-        Word::Draw(kind) => symbols::draw(kind, &line[from..], room, out),
-        Word::Read(kind) => symbols::read(kind, &line[from..], room, out),
+        Word::Draw(kind) => drawing::draw(kind, &line[from..], room, out),
+        Word::Read(which) => reading::read(which, &line[from..], room, out),
         Word::Room => no_such_call(out),
         Word::Other => no_such_call(out),
     }

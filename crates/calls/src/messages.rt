@@ -13,12 +13,11 @@ pub fn test(text: &[u8], out: &mut [u8]) -> usize
     requires { ⌜ 1024 ≤ length (now out) ⌝ }
     ensures { λ r. ⌜ (0 < r) × (r ≤ 1024) ⌝ }
 {
-    let mut message = [0u8; 4096];
+    let mut message = [0u8; 64];
     test_in(text, &mut message, out)
 }
 
 fn test_in(text: &[u8], message: &mut [u8], out: &mut [u8]) -> usize
-    requires { ⌜ length (now text) ≤ length (now message) ⌝ }
     requires { ⌜ 1024 ≤ length (now out) ⌝ }
     ensures { λ r. ⌜ (0 < r) × (r ≤ 1024) ⌝ }
 {
@@ -39,12 +38,11 @@ pub fn ask(text: &[u8], out: &mut [u8]) -> usize
         return no_identifier(out);
     };
     let from = end + 1;
-    let mut message = [0u8; 4096];
+    let mut message = [0u8; 64];
     ask_in(identifier, &text[from..], &mut message, out)
 }
 
 fn ask_in(identifier: usize, text: &[u8], message: &mut [u8], out: &mut [u8]) -> usize
-    requires { ⌜ length (now text) ≤ length (now message) ⌝ }
     requires { ⌜ 1024 ≤ length (now out) ⌝ }
     ensures { λ r. ⌜ (0 < r) × (r ≤ 1024) ⌝ }
 {
@@ -92,7 +90,7 @@ fn add_data(identifier: usize, text: &[u8], room: Room, out: &mut [u8]) -> usize
         return too_few(out);
     }
     let from = end + 1;
-    let mut content = [0u8; 4096];
+    let mut content = [0u8; 64];
     let count = message_in(&text[0..end], &mut content);
     add_to(identifier, &content[0..count], &text[from..], room, out)
 }
@@ -154,18 +152,10 @@ fn identifier_in(word: &[u8]) -> Number {
     Number::Is(9999)
 }
 
-// Puts a message as it was typed, a separator for each `^`, at the front of `message`, as far as it fits, and gives the count of bytes put.
-fn message_in(text: &[u8], message: &mut [u8]) -> usize
+// The message that was typed, as far as it fits. A message has at most 48 bytes and the data of a string at most 30, so what is longer than
+// 64 bytes is refused alike, whatever it goes on with.
+pub fn message_in(typed: &[u8], message: &mut [u8]) -> usize
     ensures { λ r. ⌜ r ≤ length (now (message .entry)) ⌝ }
 {
-    let mut i = 0;
-    while i < text.len() && i < message.len() {
-        message[i] = meant(text[i]);
-        i += 1;
-    }
-    i
-}
-
-fn meant(byte: u8) -> u8 {
-    if byte == b'^' { 29 } else { byte }
+    text::message_in(typed, message)
 }

@@ -1,16 +1,18 @@
 // The words that a line may begin with.
 ghost use mathlib.Core.Path.{_≡_};
 ghost use mathlib.Core.Bool.{true};
-use crate::kinds::Kind;
+use crate::reading::Which;
+use symbols::Kind;
 
 pub enum Word {
     Room,
     Digit,
     Test,
+    Split,
     Ask,
     Add,
     Draw(Kind),
-    Read(Kind),
+    Read(Which),
     Other,
 }
 
@@ -24,17 +26,20 @@ pub fn named(bytes: &[u8]) -> Word {
     if is_word(bytes, b"test") {
         return Word::Test;
     }
+    if is_word(bytes, b"split") {
+        return Word::Split;
+    }
     if is_word(bytes, b"ask") {
         return Word::Ask;
     }
     if is_word(bytes, b"add") {
         return Word::Add;
     }
-    symbol_named(bytes)
+    drawn_named(bytes)
 }
 
-// The words of the symbols.
-fn symbol_named(bytes: &[u8]) -> Word {
+// The words that draw a symbol.
+fn drawn_named(bytes: &[u8]) -> Word {
     if is_word(bytes, b"ean13") {
         return Word::Draw(Kind::Ean13);
     }
@@ -44,14 +49,28 @@ fn symbol_named(bytes: &[u8]) -> Word {
     if is_word(bytes, b"itf14") {
         return Word::Draw(Kind::Itf14);
     }
+    if is_word(bytes, b"gs1") {
+        return Word::Draw(Kind::Gs1128);
+    }
+    read_named(bytes)
+}
+
+// The words that read one.
+fn read_named(bytes: &[u8]) -> Word {
+    if is_word(bytes, b"read") {
+        return Word::Read(Which::Any);
+    }
     if is_word(bytes, b"read-ean13") {
-        return Word::Read(Kind::Ean13);
+        return Word::Read(Which::Only(Kind::Ean13));
     }
     if is_word(bytes, b"read-ean8") {
-        return Word::Read(Kind::Ean8);
+        return Word::Read(Which::Only(Kind::Ean8));
     }
     if is_word(bytes, b"read-itf14") {
-        return Word::Read(Kind::Itf14);
+        return Word::Read(Which::Only(Kind::Itf14));
+    }
+    if is_word(bytes, b"read-gs1") {
+        return Word::Read(Which::Only(Kind::Gs1128));
     }
     Word::Other
 }

@@ -8,7 +8,7 @@ use native.Mathlib.Decide.{decLt}
 use native.Mathlib.Omega.{arith}
 use lib.ListN.{length, length-append}
 use borrow.Author.Tests.{lt-ltb, le-ltb}
-use Rattle.text.specs.Decimal.{lastOf, decimalIn, decimalOf}
+use Rattle.text.specs.Decimal.{lastOf, decimalIn, decimalOf, apart}
 
 one-step : (k n : ℕ) → n < 10 → decimalIn (suc k) n ≡ lastOf n ∷ []
 unfolding decimalIn
@@ -59,3 +59,6 @@ length-of-decimal (suc k) n h = go (decLt n 10) (λ large. length-of-decimal k (
     go : Dec (n < 10) → (10 ≤ n → length (decimalOf (n / 10)) ≤ suc k) → length (decimalOf n) ≤ suc (suc k)
     go (yes small) tenth = omega (arith, length-one n small)
     go (no large) tenth = omega (arith, length-more n (omega arith), tenth (omega arith))
+
+pub length-of-apart : (first second : ℕ) → length (apart first second) ≡ length (decimalOf first) + length (decimalOf second) + 1
+length-of-apart first second = simp length-append (omega arith)

@@ -18,3 +18,7 @@ decimalIn (suc steps) n =
 -- n + 1 steps are always enough
 unfoldable pub decimalOf : ℕ → List ℕ
 decimalOf n = decimalIn (suc n) n
+
+-- two numbers, one space apart
+abbrev pub apart : ℕ → ℕ → List ℕ
+apart first second = decimalOf first ++ (32 ∷ []) ++ decimalOf second

@@ -1,9 +1,14 @@
-// Numbers as text: decimal digits, going out and coming in.
+// Text: numbers as decimal digits, widths as one digit each, and messages as they are typed.
+mod typed;
+mod widths;
+
+pub use typed::message_in;
+pub use widths::put_widths;
 ghost use mathlib.Core.Path.{_≡_};
 ghost use Prim.Native.Nat.{_≤_};
 ghost use lib.ListN.{length};
 ghost use Rattle.text.specs.Puts.{Puts};
-ghost use Rattle.text.specs.Decimal.{lastOf, decimalOf};
+ghost use Rattle.text.specs.Decimal.{lastOf, decimalOf, apart};
 ghost use Rattle.text.specs.Numeral.{numberIn};
 
 // What a numeral is read as.
@@ -19,6 +24,18 @@ pub fn put_number(n: usize, out: &mut [u8]) -> usize
     ensures { λ r. ⌜ r ≤ 20 ⌝ }
 {
     put_digits(n, out)
+}
+
+// Writes two numbers, one space apart, and answers how many bytes they are: 41 at most.
+pub fn put_pair(first: usize, second: usize, out: &mut [u8]) -> usize
+    requires { ⌜ 41 ≤ length (now out) ⌝ }
+    ensures { λ r. ⌜ Puts (apart first second) (now (out .entry)) r (now (out .exit)) ⌝ }
+    ensures { λ r. ⌜ r ≤ 41 ⌝ }
+{
+    let at = put_number(first, out);
+    out[at] = b' ';
+    let from = at + 1;
+    from + put_number(second, &mut out[from..])
 }
 
 // The number that a decimal numeral says, if that is at most `most`.

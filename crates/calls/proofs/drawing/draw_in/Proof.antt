@@ -1,11 +1,11 @@
--- `calls::symbols::draw_in` is safe: what it counts lies within what it is lent.
+-- `calls::drawing::draw_in` is safe: what it counts lies within what it is lent.
 use Prim.Native.Nat.{ℕ}
 use mathlib.Core.Path.{sym, subst}
 use native.Mathlib.Omega.{arith}
 use borrow.Author.Needs.{needs}
 use Rattle.calls.specs.Places.{Filled}
-use Rattle.calls.proofs.symbols.draw_in.Statement.{statement}
-use Rattle.calls.proofs.symbols.draw_in.Tie as tie
+use Rattle.calls.proofs.drawing.draw_in.Statement.{statement}
+use Rattle.calls.proofs.drawing.draw_in.Tie as tie
 
 write-requires : tie.Need-write-requires
 write-requires c κs = search needs

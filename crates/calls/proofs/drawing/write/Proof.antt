@@ -1,8 +1,10 @@
--- `calls::kinds::Kind::write` answers a count that lies within what it was lent, since each call it makes fills what it counts.
+-- `calls::drawing::write` answers a count that lies within what it was lent, since each call it makes fills what it counts.
 use borrow.Author.Needs.{needs}
 use Rattle.calls.proofs.Counts.{filled}
-use Rattle.calls.proofs.kinds.Kind.write.Statement.{statement}
-use Rattle.calls.proofs.kinds.Kind.write.Tie as tie
+use borrow.Author.Needs.{needs}
+use Rattle.calls.proofs.Counts.{filled}
+use Rattle.calls.proofs.drawing.write.Statement.{statement}
+use Rattle.calls.proofs.drawing.write.Tie as tie
 
 enum-told : tie.Need-enum-told
 enum-told c = search needs
@@ -22,6 +24,12 @@ enum-told-3 c = search needs
 write-requires-3 : tie.Need-write-requires-3
 write-requires-3 c κs = search needs
 
+enum-told-4 : tie.Need-enum-told-4
+enum-told-4 c = search needs
+
+write-requires-4 : tie.Need-write-requires-4
+write-requires-4 c κs = search needs
+
 same-length : tie.Need-same-length
 same-length c = search needs
 
@@ -40,6 +48,12 @@ same-length-3 c = search needs
 returns-3 : tie.Need-returns-3
 returns-3 c = filled _ _ _ _ (c .before .before .write3 .ensures) (c .before .before .write3 .kept .1 .0)
 
+same-length-4 : tie.Need-same-length-4
+same-length-4 c = search needs
+
+returns-4 : tie.Need-returns-4
+returns-4 c = filled _ _ _ _ (c .before .before .write4 .ensures) (c .before .before .write4 .kept .1 .0)
+
 pub write-spec : {M : Type 1} → statement M
 write-spec =
     tie.close
@@ -50,9 +64,13 @@ write-spec =
     write-requires-2
     enum-told-3
     write-requires-3
+    enum-told-4
+    write-requires-4
     same-length
     returns
     same-length-2
     returns-2
     same-length-3
-    returns-3)
+    returns-3
+    same-length-4
+    returns-4)

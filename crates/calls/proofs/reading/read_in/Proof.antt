@@ -1,4 +1,4 @@
--- `calls::symbols::read_in` is safe: the widths lie within the list made for them, the number within the places lent.
+-- `calls::reading::read_in` is safe: the widths lie within the list made for them, the number within the places lent.
 use Prim.Native.Nat.{ℕ, _≤_}
 use mathlib.Core.Path.{sym, subst}
 use native.Mathlib.Omega.{arith}
@@ -6,8 +6,8 @@ use lib.ListN.{length}
 use borrow.Author.Needs.{needs}
 use Rattle.calls.specs.Places.{Filled, Counted}
 use Rattle.calls.specs.declared.widths.Widths.{Widths}
-use Rattle.calls.proofs.symbols.read_in.Statement.{statement}
-use Rattle.calls.proofs.symbols.read_in.Tie as tie
+use Rattle.calls.proofs.reading.read_in.Statement.{statement}
+use Rattle.calls.proofs.reading.read_in.Tie as tie
 
 widths-in-requires : tie.Need-widths-in-requires
 widths-in-requires c κs = search needs
@@ -33,27 +33,22 @@ same-length-2 c = search needs
 returns : tie.Need-returns
 returns c = search needs
 
-sub-read : tie.Need-sub-read
-sub-read c = search needs
+sub-read-list : tie.Need-sub-read-list
+sub-read-list c = search needs
 
-part-read-start : tie.Need-part-read-start
-part-read-start c = search needs
+part-read-list-start : tie.Need-part-read-list-start
+part-read-list-start c = search needs
 
-part-read-end : tie.Need-part-read-end
-part-read-end c =
+part-read-list-end : tie.Need-part-read-list-end
+part-read-list-end c =
     let w = c .before .before .before .before .before .before .widths-in in
     let told = c .before .before .count .given in
     let most = length (c .before .before .before .before .before .before .before .before .before .before .before .before .args .widths .now) in
     let counted : told .0 .0 ≤ most = subst (λ (r : Widths). Counted r most) (told .1) (w .ensures) in
     omega (arith, w .kept .1 .0)
 
-read-requires : tie.Need-read-requires
-read-requires c κs = search needs
-
-put-made-requires : tie.Need-put-made-requires
-put-made-requires c κs =
-    let w = c .before .before .before .before .read in
-    (subst (λ (places : ℕ). Filled (w .result) places) (sym (w .kept .1 .1 .0)) (w .ensures), (omega (arith, w .kept .1 .1 .0), search needs))
+read-list-requires : tie.Need-read-list-requires
+read-list-requires c κs = search needs
 
 same-length-3 : tie.Need-same-length-3
 same-length-3 c = search needs
@@ -79,11 +74,10 @@ read-in-spec =
     same-length
     same-length-2
     returns
-    sub-read
-    part-read-start
-    part-read-end
-    read-requires
-    put-made-requires
+    sub-read-list
+    part-read-list-start
+    part-read-list-end
+    read-list-requires
     same-length-3
     same-length-4
     same-length-5

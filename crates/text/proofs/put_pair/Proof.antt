@@ -1,0 +1,58 @@
+-- `text::put_pair` meets its contract: the first number and the space stand at the front, and the second number after them.
+use mathlib.Core.Path.{_∙_}
+use native.Mathlib.Omega.{arith}
+use lib.ListN.{length, length-set, length-drop, length-take}
+use borrow.Rule.Slice.PartMut.{same-len-mid}
+use borrow.Author.Needs.{needs}
+use Rattle.text.proofs.PutsLaws.{puts-more, puts-then}
+use Rattle.text.proofs.put_pair.Statement.{statement}
+use Rattle.text.proofs.put_pair.Tie as tie
+
+put-number-requires : tie.Need-put-number-requires
+put-number-requires c κs = search needs
+
+slice-write-out : tie.Need-slice-write-out
+slice-write-out c = search needs
+
+add-from : tie.Need-add-from
+add-from c = search needs
+
+sub-put-number : tie.Need-sub-put-number
+sub-put-number c = simp length-set (omega arith)
+
+part-put-number-start : tie.Need-part-put-number-start
+part-put-number-start c = simp length-set (omega arith)
+
+part-put-number-end : tie.Need-part-put-number-end
+part-put-number-end c = search needs
+
+put-number-requires-2 : tie.Need-put-number-requires-2
+put-number-requires-2 c κs = simp (length-take, length-drop, length-set) (omega arith)
+
+add-result : tie.Need-add-result
+add-result c = search needs
+
+same-length : tie.Need-same-length
+same-length c =
+    let first = c .before .before .before .before .before .before .put-number in
+    c .before .out2 .given .1 ∙ length-set (first .last .1 .0) (first .result) 32 ∙ first .kept .1 .0
+
+returns : tie.Need-returns
+returns c =
+    let first = c .before .before .before .before .before .before .put-number in
+    (puts-then _ _ _ _ _ _ _ (puts-more _ _ _ _ 32 (omega arith) (first .ensures .0)) (c .before .before .put-number2 .ensures .0), omega arith)
+
+pub put-pair-spec : {M : Type 1} → statement M
+put-pair-spec =
+    tie.close
+    (tie.spec
+    put-number-requires
+    slice-write-out
+    add-from
+    sub-put-number
+    part-put-number-start
+    part-put-number-end
+    put-number-requires-2
+    add-result
+    same-length
+    returns)
