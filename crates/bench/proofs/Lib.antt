@@ -1,0 +1,6 @@
+mod BlockLaws
+mod DrawnLaws
+mod Example
+mod FilledLaws
+mod WrittenLaws
+mod Theorems

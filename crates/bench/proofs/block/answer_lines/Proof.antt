@@ -1,0 +1,130 @@
+-- `bench::block::answer_lines` meets its contract: the lines so far are answered, and `end` is where the next one ends; the loop stops where
+-- none ends in the block, or where there is no room for certain.
+use Prim.Native.Nat.{_+_, _-_, _≤_}
+use mathlib.Core.Path.{_≡_, refl, _∙_}
+use mathlib.Core.Logic.{inl, inr}
+use native.Mathlib.Omega.{arith}
+use lib.ListN.{length, drop, length-take, length-drop}
+use borrow.Author.Tests.{leb-true, leb-false}
+use Rattle.laws.specs.First.{firstNot}
+use Rattle.lines.specs.Cut.{otherThan}
+use Rattle.bench.specs.Block.{Answered}
+use Rattle.bench.proofs.BlockLaws.{answered-none, answered-more, room-left}
+use Rattle.bench.proofs.block.answer_lines.Statement.{statement}
+use Rattle.bench.proofs.block.answer_lines.Tie as tie
+
+abbrev Inv-loop : tie.InvT-loop
+Inv-loop block from out₀ next₀ put₀ end₀ out next put end =
+    (from ≤ next)
+    × (next ≤ end)
+    × (end ≤ length block)
+    × (put ≤ length out)
+    × (length out ≡ length out₀)
+    × (end ≡ next + firstNot (otherThan 10) (drop next block))
+    × Answered block from out₀ next put out
+
+abbrev μ-loop : tie.MeasureT-loop
+μ-loop block from out₀ next₀ put₀ end₀ out next put end = length block - end
+
+line-end-requires : tie.Need-line-end-requires Inv-loop μ-loop
+line-end-requires c κs = omega arith
+
+loop-holds : tie.Need-loop-holds Inv-loop μ-loop
+loop-holds c = (omega arith, omega arith, omega arith, omega arith, refl, c .line-end .ensures .0, answered-none _ _ _)
+
+sub-if1 : tie.Need-sub-if1 Inv-loop μ-loop
+sub-if1 c = omega arith
+
+sub-answer : tie.Need-sub-answer Inv-loop μ-loop
+sub-answer c = omega arith
+
+part-answer-start : tie.Need-part-answer-start Inv-loop μ-loop
+part-answer-start c = omega arith
+
+part-answer-end : tie.Need-part-answer-end Inv-loop μ-loop
+part-answer-end c = omega arith
+
+sub-answer-2 : tie.Need-sub-answer-2 Inv-loop μ-loop
+sub-answer-2 c = omega arith
+
+part-answer-start-2 : tie.Need-part-answer-start-2 Inv-loop μ-loop
+part-answer-start-2 c = omega arith
+
+part-answer-end-2 : tie.Need-part-answer-end-2 Inv-loop μ-loop
+part-answer-end-2 c = omega arith
+
+answer-requires : tie.Need-answer-requires Inv-loop μ-loop
+answer-requires c κs = simp (length-take, length-drop) (omega (arith, leb-true))
+
+add-put : tie.Need-add-put Inv-loop μ-loop
+add-put c =
+    let loop = c .before .before .before .before .before .before .before .loop in
+    let answer = c .before .before .answer in
+    omega (arith, room-left _ (loop .out) (loop .put) (answer .result) (answer .last .1 .0) (omega arith) (answer .ensures) (answer .kept .1 .0))
+
+add-next : tie.Need-add-next Inv-loop μ-loop
+add-next c = omega arith
+
+line-end-requires-2 : tie.Need-line-end-requires-2 Inv-loop μ-loop
+line-end-requires-2 c κs = omega arith
+
+loop-less : tie.Need-loop-less Inv-loop μ-loop
+loop-less c = omega arith
+
+loop-again : tie.Need-loop-again Inv-loop μ-loop
+loop-again c =
+    let loop = c .before .before .before .before .before .before .before .before .loop in
+    let args = c .before .before .before .before .before .before .before .before .before .before .before .before .args in
+    let answer = c .before .before .before .answer in
+    let fits = room-left _ (loop .out) (loop .put) (answer .result) (answer .last .1 .0) (omega arith) (answer .ensures) (answer .kept .1 .0) in
+    let same = c .before .before .out .given .1 in (
+      omega arith,
+      omega (arith, c .line-end2 .ensures .0),
+      c .line-end2 .ensures .1,
+      rw same fits,
+      same ∙ loop .inv .4,
+      c .line-end2 .ensures .0,
+      answered-more (args .block .now) (args .from) (args .out .now) (loop .next) (loop .put) (loop .out) (loop .end) (loop .inv .5) (omega arith) (answer .result) (answer .last .1 .0) (loop .inv .6) (answer .ensures),
+    )
+
+same-length : tie.Need-same-length Inv-loop μ-loop
+same-length c = omega arith
+
+returns : tie.Need-returns Inv-loop μ-loop
+returns c =
+    let loop = c .before .before .loop in
+    (loop .inv .6, ((omega arith, omega arith), inr (omega (arith, leb-false))))
+
+same-length-2 : tie.Need-same-length-2 Inv-loop μ-loop
+same-length-2 c = omega arith
+
+returns-2 : tie.Need-returns-2 Inv-loop μ-loop
+returns-2 c =
+    let loop = c .before .loop in
+    (loop .inv .6, ((omega arith, omega arith), inl (rw length-drop (omega arith))))
+
+pub answer-lines-spec : {M : Type 1} → statement M
+answer-lines-spec =
+    tie.close
+    (tie.spec
+    Inv-loop
+    μ-loop
+    line-end-requires
+    loop-holds
+    sub-if1
+    sub-answer
+    part-answer-start
+    part-answer-end
+    sub-answer-2
+    part-answer-start-2
+    part-answer-end-2
+    answer-requires
+    add-put
+    add-next
+    line-end-requires-2
+    loop-less
+    loop-again
+    same-length
+    returns
+    same-length-2
+    returns-2)
