@@ -1,14 +1,14 @@
 -- What a value means in a set, read backwards: one case for each line of document 01's table of the sets. And so every value of a legal
 -- spelling is one of 0 to 102.
-use Prim.Native.Nat.{ℕ, zero, suc, _+_, _<_}
+use Prim.Native.Nat.{ℕ, _+_, _<_}
 use mathlib.Core.Path.{_≡_, refl, subst}
 use mathlib.Core.Bool.{Bool, true, false, cond}
 use mathlib.Core.List.{List, _∷_}
-use native.Mathlib.Nat.{le-of-suc-le-suc, not-suc-le-zero}
 use native.Mathlib.Omega.{arith}
 use lib.Dec.{eqb, ltb}
 use borrow.Author.Tests.{ltb-true, eqb-true}
 use Rattle.laws.specs.Below.{Below}
+use Rattle.laws.proofs.BelowLaws.{below-of-nil, below-more}
 use Rattle.code128.specs.Sets.{Set, setA, setB, setC, Meaning, byte, pair, change, shift, separator, illegal, meaningIn, byteIn}
 use Rattle.code128.specs.Spelling.{Spells, ended, a-byte, a-pair, a-shift, a-change, a-separator}
 
@@ -83,12 +83,8 @@ legal-most (c-to-a h) legal = omega arith
 legal-most (separates h) legal = omega arith
 legal-most means-nothing legal = absurd legal
 
-below-more : (bound x : ℕ) (xs : List ℕ) → x < bound → Below bound xs → Below bound (x ∷ xs)
-below-more bound x xs h rest zero within = h
-below-more bound x xs h rest (suc i) within = rest i (le-of-suc-le-suc within)
-
 pub spelled-below : {set : Set} {values text : List ℕ} → Spells set values text → Below 103 values
-spelled-below ended = λ i h. absurd (not-suc-le-zero h)
+spelled-below ended = below-of-nil 103
 spelled-below (a-byte {values = values} is legal rest) = below-more 103 _ values (legal-most (means _ _ is) tt) (spelled-below rest)
 spelled-below (a-pair {values = values} is rest) = below-more 103 _ values (legal-most (means _ _ is) tt) (spelled-below rest)
 spelled-below (a-shift {shifted = shifted} {values = values} is low legal rest) =

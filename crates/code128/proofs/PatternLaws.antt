@@ -1,20 +1,18 @@
 -- What document 01 says of the 106 patterns, each a test computed over the table: six widths each, 11 modules with an even bar sum, no two
 -- equal, and none equal to the stop's first six widths.
-use Prim.Native.Nat.{ℕ, zero, _+_, _%_, _<_}
+use Prim.Native.Nat.{ℕ, _%_, _<_}
 use mathlib.Core.Path.{_≡_, refl}
 use mathlib.Core.List.{List, [], _∷_}
 use lib.ListN.{length, getD, take}
 use lib.Dec.{T, eqb, eqb→eq}
-use Rattle.laws.proofs.Tables.{at-entry}
 use Rattle.laws.specs.First.{firstNot}
+use Rattle.laws.specs.Sum.{sum}
+use Rattle.laws.proofs.Tables.{at-entry}
 use Rattle.patterns.specs.Patterns.{same, valueIn}
 use Rattle.patterns.proofs.PatternLaws.{distinct}
 use Rattle.patterns.proofs.CharacterLaws.{sized, length-at}
+use Rattle.patterns.proofs.DrawnSums.{sum-at}
 use Rattle.code128.specs.Characters.{patterns, stop}
-
-abbrev pub sum : List ℕ → ℕ
-sum [] = zero
-sum (width ∷ widths) = width + sum widths
 
 -- every second width, from the first on
 abbrev pub bars : List ℕ → List ℕ
@@ -39,11 +37,11 @@ pattern-length v h = length-at patterns 6 patterns-sized v (rw patterns-are h)
 
 -- "Each of 0 to 105 sums to 11 with an even bar sum"
 pub pattern-sum : (v : ℕ) → v < 106 → sum (getD patterns v []) ≡ 11
-unfolding patterns
-pattern-sum v h = eqb→eq _ 11 (at-entry (λ (k : ℕ) (pattern : List ℕ). eqb (sum pattern) 11) [] patterns tt v h)
+unfolding patterns sum
+pattern-sum v h = sum-at patterns 11 tt v h
 
 pub pattern-bars : (v : ℕ) → v < 106 → sum (bars (getD patterns v [])) % 2 ≡ 0
-unfolding patterns
+unfolding patterns sum
 pattern-bars v h = eqb→eq _ 0 (at-entry (λ (k : ℕ) (pattern : List ℕ). eqb (sum (bars pattern) % 2) 0) [] patterns tt v h)
 
 pub stop-is-no-pattern : valueIn patterns (take 6 stop) ≡ 106

@@ -18,6 +18,7 @@ use Rattle.refusal.specs.declared.Refusal.the-variants.{Sequence}
 use Rattle.refusal.specs.Outcome.{Outcome, made, refused, _>>=_, _>>_, must}
 use Rattle.refusal.specs.Fills.{answerOf, FillsOwn}
 use Rattle.refusal.proofs.OutcomeLaws.{made-not-refused, made-same, must-made, bind-made}
+use Rattle.refusal.proofs.OwnLaws.{own-refused}
 use Rattle.code128.specs.Sets.{Set}
 use Rattle.code128.specs.Reading.{Mode, in-set, shifted-from, Step, step, stuck, emitted, stepIn, goOn, spells}
 use Rattle.code128.specs.Readers.{readOn, Puts}
@@ -78,10 +79,6 @@ module _ (so-far : List ℕ) where
       let m = must-made (leb (length (so-far ++ b .0)) 48) Sequence (made (so-far ++ b .0)) text (b .2) in
       rw (← made-same (so-far ++ b .0) text (m .1), length-append) (omega arith)
 
--- a working list that a refusal leaves as it may
-own-refused : (o : Outcome (List ℕ)) (f : Refusal) (before after : List ℕ) → o ≡ refused f → FillsOwn o before (Refused f) after
-own-refused o f before after e = record { answer = ap answerOf (sym e); lent = λ xs is. absurd (made-not-refused xs f (sym is ∙ e)) }
-
 module _ (values : List ℕ) (from : ℕ) (here : from < length values) (before : List ℕ) (size : length before ≡ 48) (at : ℕ) (within : at ≤ 48) (mode : Mode) where
   abbrev value : ℕ
   value = getD values from 0
@@ -108,13 +105,13 @@ module _ (values : List ℕ) (from : ℕ) (here : from < length values) (before 
   shift-at-end : (set : Set) (after : List ℕ) → stepIn mode value ≡ step [] (shifted-from set) → length values ≤ from + 1 → FillsOwn rule before (Refused Sequence) after
   shift-at-end set after e over =
       goes-on (shifted-from set) (Refused Sequence) after e
-      (own-refused (readOn (take at before) (shifted-from set) (drop (from + 1) values)) Sequence before after
+      (own-refused (readOn (take at before) (shifted-from set) (drop (from + 1) values)) before after Sequence
       (ap (readOn (take at before) (shifted-from set)) (drop-of-length-le values {i = from + 1} over) ∙ read-over-shift (take at before) set))
 
   module _ (next : Mode) (legal : Bool) (bytes : List ℕ) (means : stepIn mode value ≡ emitted legal bytes next) (put : Bool) (middle : List ℕ) (puts : Puts legal bytes at before put middle) where
     -- a value whose bytes could not be put
     put-not : (after : List ℕ) → put ≡ false → FillsOwn rule before (Refused Sequence) after
-    put-not after e = own-refused rule Sequence before after (ap (readOn (take at before) mode) apart ∙ go legal means (sym (puts .answer) ∙ e))
+    put-not after e = own-refused rule before after Sequence (ap (readOn (take at before) mode) apart ∙ go legal means (sym (puts .answer) ∙ e))
       where
         go : (l : Bool) → stepIn mode value ≡ emitted l bytes next → (l && leb (at + length bytes) (length before)) ≡ false → readOn (take at before) mode (value ∷ drop (from + 1) values) ≡ refused Sequence
         go false is e = read-stuck (take at before) mode value (drop (from + 1) values) is

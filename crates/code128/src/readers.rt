@@ -11,12 +11,11 @@ ghost use Rattle.refusal.specs.Fills.{FillsOwn};
 ghost use Rattle.code128.specs.Sets.{setA, setB, setC, byteIn};
 ghost use Rattle.code128.specs.Reading.{in-set};
 ghost use Rattle.code128.specs.Readers.{readOn, isByteIn, Puts};
+use elements::characters::SEPARATOR;
 use refusal::Answer;
 use refusal::Refusal;
 
 const FNC1: u8 = 102;
-
-const SEPARATOR: u8 = 29;
 
 pub fn read_a(values: &[u8], from: usize, text: &mut [u8], at: usize) -> Answer
     requires { ⌜ (from ≤ length (now values)) × (length (now text) ≡ 48) × (at ≤ 48) ⌝ }

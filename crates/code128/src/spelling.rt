@@ -9,8 +9,7 @@ ghost use Rattle.laws.specs.First.{firstNot};
 ghost use Rattle.elements.specs.Characters.{isMessageByte};
 ghost use Rattle.code128.specs.Best.{bestSpelling};
 ghost use Rattle.code128.specs.States.{from, stateAt, stateOf, startsInC, Steps};
-
-const SEPARATOR: u8 = 29;
+use elements::characters::SEPARATOR;
 
 const FNC1: u8 = 102;
 

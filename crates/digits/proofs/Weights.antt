@@ -7,7 +7,7 @@ use native.Mathlib.Omega.{arith}
 use borrow.Author.Tests.{eq-eqb, ne-eqb}
 use Rattle.digits.specs.Check.{weightAt}
 
-pub even-or-odd : (k : ℕ) → (k % 2 ≡ 0) ⊎ (k % 2 ≡ 1)
+even-or-odd : (k : ℕ) → (k % 2 ≡ 0) ⊎ (k % 2 ≡ 1)
 even-or-odd k = go (k % 2) (omega arith)
   where
     go : (m : ℕ) → m ≤ 1 → (m ≡ 0) ⊎ (m ≡ 1)

@@ -18,8 +18,8 @@ use Rattle.ean.specs.declared.tables.Sets.the-variants.{AOrB, C}
 use Rattle.ean.specs.Tables.{setA, setB, setC, parityRows, guard, centre}
 use Rattle.laws.specs.Below.{Below}
 use Rattle.ean.specs.Ean13.{leftValues, symbol13, guarded13, scanned13}
-use Rattle.ean.proofs.BelowLaws.{below-drop, below-cons, below-append, remainders-below}
-use Rattle.ean.proofs.LeftLaws.{letters-again, digits-again, values-again}
+use Rattle.laws.proofs.BelowLaws.{below-drop, below-more, below-append}
+use Rattle.ean.proofs.LeftLaws.{letters-again, digits-again, values-again, remainders-below}
 use Rattle.ean.proofs.ParityLaws.{distinct-rows}
 use Rattle.ean.proofs.Candidates.{distinct-sets}
 use Rattle.ean.proofs.Drawing.{sized-sets, length-of-half}
@@ -156,7 +156,7 @@ module _ (widths digits : List ℕ) (k : Scanned widths digits) where
 
   digits-below : Below 10 (first ∷ (ones ++ k .right))
   unfolding first ones
-  digits-below = below-cons 10 first (ones ++ k .right) (k .first-below) (below-append 10 ones (k .right) (remainders-below (k .left)) (right-known .2))
+  digits-below = below-more 10 first (ones ++ k .right) (k .first-below) (below-append 10 ones (k .right) (remainders-below (k .left)) (right-known .2))
 
   known-symbol : (symbol13 digits ≡ widths) × (length digits ≡ 13) × Below 10 digits
   unfolding first ones

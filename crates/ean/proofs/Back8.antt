@@ -16,7 +16,7 @@ use Rattle.ean.specs.declared.tables.Sets.the-variants.{A, C}
 use Rattle.ean.specs.Tables.{setA, setC, guard, centre}
 use Rattle.laws.specs.Below.{Below}
 use Rattle.ean.specs.Ean8.{symbol8, guarded8, scanned8}
-use Rattle.ean.proofs.BelowLaws.{below-take, below-drop, below-append}
+use Rattle.laws.proofs.BelowLaws.{below-take, below-drop, below-append}
 use Rattle.ean.proofs.Candidates.{distinct-sets}
 use Rattle.ean.proofs.Drawing.{sized-sets, length-of-half}
 use Rattle.ean.proofs.Framed.{framed, length-of-framed, framed-left, framed-right, framed-is-guarded, guarded-is-framed}

@@ -7,7 +7,7 @@ use lib.ListN.{length, getD, take, drop, length-take, length-drop}
 use Rattle.ean.specs.Tables.{parityRows}
 use Rattle.laws.specs.Below.{Below}
 use Rattle.ean.specs.Ean13.{leftValues}
-use Rattle.ean.proofs.BelowLaws.{below-take, below-drop}
+use Rattle.laws.proofs.BelowLaws.{below-take, below-drop}
 use Rattle.ean.proofs.LeftLaws.{length-left, left-below}
 use Rattle.ean.proofs.ParityLaws.{length-of-row, letters-of-row}
 

@@ -1,11 +1,12 @@
 -- The values of a left half: letter and digit at each place, and both come back from the value.
-use Prim.Native.Nat.{ℕ, zero, suc, _+_, _*_, _/_, _%_, _<_, suc-le-suc}
+use Prim.Native.Nat.{ℕ, zero, suc, _+_, _*_, _/_, _%_, _<_}
 use mathlib.Core.Path.{_≡_, refl, ap, ap₂}
 use mathlib.Core.List.{List, [], _∷_, map}
 use native.Mathlib.Nat.{le-of-suc-le-suc, not-suc-le-zero, suc-inj}
 use native.Mathlib.Omega.{arith}
-use lib.ListN.{length, getD}
+use lib.ListN.{length, getD, List·getD-map}
 use Rattle.laws.specs.Below.{Below}
+use Rattle.laws.proofs.BelowLaws.{below-rest}
 use Rattle.ean.specs.Ean13.{leftValues}
 
 pub length-left : (letters digits : List ℕ) → length letters ≡ length digits → length (leftValues letters digits) ≡ length digits
@@ -32,7 +33,7 @@ letters-again (l ∷ letters) [] e below = absurd (omega arith)
 letters-again (l ∷ letters) (d ∷ digits) e below =
     let first = below 0 (omega arith) in
     let letter : (10 * l + d) / 10 ≡ l = omega arith in
-    ap₂ (λ (x : ℕ) (xs : List ℕ). x ∷ xs) letter (letters-again letters digits (suc-inj e) (λ i h. below (suc i) (suc-le-suc h)))
+    ap₂ (λ (x : ℕ) (xs : List ℕ). x ∷ xs) letter (letters-again letters digits (suc-inj e) (below-rest 10 d digits below))
 
 pub digits-again : (letters digits : List ℕ) → length letters ≡ length digits → Below 10 digits → map (λ v. v % 10) (leftValues letters digits) ≡ digits
 digits-again [] [] e below = refl
@@ -41,10 +42,13 @@ digits-again (l ∷ letters) [] e below = refl
 digits-again (l ∷ letters) (d ∷ digits) e below =
     let first = below 0 (omega arith) in
     let digit : (10 * l + d) % 10 ≡ d = omega arith in
-    ap₂ (λ (x : ℕ) (xs : List ℕ). x ∷ xs) digit (digits-again letters digits (suc-inj e) (λ i h. below (suc i) (suc-le-suc h)))
+    ap₂ (λ (x : ℕ) (xs : List ℕ). x ∷ xs) digit (digits-again letters digits (suc-inj e) (below-rest 10 d digits below))
 
 pub values-again : (values : List ℕ) → leftValues (map (λ v. v / 10) values) (map (λ v. v % 10) values) ≡ values
 values-again [] = refl
 values-again (v ∷ values) =
     let value : 10 * (v / 10) + v % 10 ≡ v = omega arith in
     ap₂ (λ (x : ℕ) (xs : List ℕ). x ∷ xs) value (values-again values)
+
+pub remainders-below : (values : List ℕ) → Below 10 (map (λ v. v % 10) values)
+remainders-below values i h = rw (List·getD-map (λ v. v % 10) values i 0) (omega arith)

@@ -1,17 +1,13 @@
 -- What the functions' proofs rest on, and the theorems.
 --
---   BelowLaws              lists whose elements are all below a bound
---   Listed                 a list written out by its elements
 --   ParityLaws             the ten parity rows, by computed tests
 --   LeftLaws, LeftHalf     letter and digit of a left half's values; the left half of thirteen digits
 --   Candidates, Scanning   one look in a table and one comparison; a half that was scanned
---   Drawing, Parts         characters drawn one after the other; a list written part by part
+--   Drawing, Parts         characters drawn one after the other; a symbol written part by part
 --   Framed                 two halves between the guards
 --   Scanned13, Scanned8    the lines of each scan, one after the other
 --   Back13, Back8          each scan and each symbol undo one another
 --   Theorems               the same of the calls' rules, and what follows
-pub mod BelowLaws
-pub mod Listed
 pub mod ParityLaws
 pub mod LeftLaws
 pub mod LeftHalf

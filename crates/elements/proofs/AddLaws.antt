@@ -9,11 +9,10 @@ use native.Mathlib.Omega.{arith}
 use lib.ListN.{length, take, length-append, length-take}
 use lib.Dec.{leb}
 use borrow.Author.Tests.{eq-eqb, ne-eqb, le-leb, lt-leb, leb-true}
-use Rattle.refusal.specs.declared.Answer.the-variants.{Done, Refused}
 use Rattle.refusal.specs.declared.Refusal.{Refusal}
 use Rattle.refusal.specs.declared.Refusal.the-variants.{Count, Identifier, Data, Repeated, Sequence}
 use Rattle.refusal.specs.Outcome.{Outcome, made, refused, _>>=_, _>>_, must}
-use Rattle.refusal.specs.Fills.{answered, laying}
+use Rattle.refusal.specs.Fills.{laying}
 use Rattle.refusal.proofs.OutcomeLaws.{must-made, bind-made, made-same}
 use Rattle.elements.specs.declared.Element.{Element}
 use Rattle.elements.specs.declared.identifiers.Kind.{Kind}
@@ -32,15 +31,6 @@ use Rattle.elements.proofs.StringLaws.{given-made, string-found}
 use Rattle.elements.proofs.CutLaws.{closing-is}
 use Rattle.elements.proofs.FromRule.{tested-made}
 use Rattle.elements.proofs.AskLaws.{From, First, first-of, from-start}
-
--- what an answer that is a number says of the rule behind it
-pub refused-of-answered : (o : Outcome ℕ) (f : Refusal) → Refused f ≡ answered o → o ≡ refused f
-refused-of-answered (made n) f e = absurd (let z : _≡_ {A = ℕ} 0 1 = cc in omega arith)
-refused-of-answered (refused g) f e = cc
-
-pub made-of-answered : (o : Outcome ℕ) (n : ℕ) → Done n ≡ answered o → o ≡ made n
-made-of-answered (made m) n e = cc
-made-of-answered (refused g) n e = absurd (let z : _≡_ {A = ℕ} 0 1 = cc in omega arith)
 
 -- the message so far: none, or one that was tested
 pub sofar-none : (old : List ℕ) → length old < 1 → old ≡ []

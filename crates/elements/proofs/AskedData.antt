@@ -2,7 +2,7 @@
 -- other case; since right data is never empty, the part is empty only where there is a refusal.
 use Prim.Native.Nat.{ℕ}
 use mathlib.Core.Path.{_≡_, refl, sym, ap, _∙_, subst}
-use mathlib.Core.Bool.{Bool, true, false, _||_}
+use mathlib.Core.Bool.{Bool, true, false, _||_, or-true}
 use mathlib.Core.List.{List, [], _∷_, _++_, map}
 use native.Mathlib.Omega.{arith}
 use lib.ListN.{length, drop, length-drop}
@@ -18,7 +18,7 @@ use Rattle.elements.specs.Characters.{among}
 use Rattle.elements.specs.Strings.{tested}
 use Rattle.elements.specs.Messages.{ElementString, Different, different-more, IsMessage, stringOf}
 use Rattle.elements.specs.Asking.{named, asked, partOf}
-use Rattle.elements.proofs.AmongLaws.{or-true, among-more}
+use Rattle.elements.proofs.AmongLaws.{among-more}
 use Rattle.elements.proofs.FromRule.{named as identifiers, accepted-is-message}
 use Rattle.elements.proofs.FromRelation.{message-is-accepted}
 use Rattle.elements.proofs.AskLaws.{named-here, named-later, named-none, asked-named, asked-stands, part-within, part-some}

@@ -1,11 +1,10 @@
 -- The first two digits of an identifier decide how many it has: so the only identifier that some bytes can begin with is the number of
 -- that many digits, and they begin with it exactly where it is listed.
-use Prim.Native.Nat.{ℕ, zero, suc, _+_, _-_, _*_, _≤_, _<_, suc-le-suc}
+use Prim.Native.Nat.{ℕ, suc, _+_, _-_, _*_, _≤_, _<_}
 use mathlib.Core.Path.{_≡_, refl, sym, ap, ap₂, _∙_, subst}
 use mathlib.Core.Bool.{Bool, true, false, cond, _&&_}
 use mathlib.Core.List.{List, [], _∷_, _++_}
 use mathlib.Core.Option.{Option, some, none}
-use native.Mathlib.Nat.{suc-inj, not-suc-le-zero, le-of-suc-le-suc}
 use native.Mathlib.Omega.{arith}
 use lib.ListN.{length, getD, take, drop, length-take, take-append-drop, List·getD-append}
 use lib.Seq.{take-append-add, take-at, getD-take}
@@ -13,7 +12,8 @@ use lib.Dec.{eqb, leb}
 use borrow.Author.Tests.{eqb-true, leb-true, leb-false}
 use Rattle.laws.specs.First.{firstNot}
 use Rattle.laws.proofs.Booleans.{both-hold}
-use Rattle.laws.proofs.FirstLaws.{first-within}
+use Rattle.laws.proofs.FirstLaws.{first-within, pass-before, first-of-append}
+use Rattle.laws.proofs.Listed.{listed-front}
 use Rattle.digits.specs.Digit.{isDigit, valueOf}
 use Rattle.digits.proofs.DigitLaws.{digit-range}
 use Rattle.elements.specs.declared.identifiers.Kind.{Kind}
@@ -55,16 +55,6 @@ spelling-of x e =
     let d = both-hold (eqb (firstNot isDigit (spelled x)) (length (spelled x))) (eqb (digitsAfter (pairAt (spelled x) 0)) (length (spelled x))) (c .0) in
     record { all-digits = eqb-true _ _ (d .0); decided = eqb-true _ _ (d .1); two = leb-true _ _ (c .1); four = leb-true _ _ (b .1); small = leb-true _ _ (a .1) }
 
--- the bytes after a list that passes don't come first
-first-past : (xs ys : List ℕ) → firstNot isDigit xs ≡ length xs → length xs ≤ firstNot isDigit (xs ++ ys)
-unfolding firstNot
-first-past [] ys e = omega arith
-first-past (x ∷ xs) ys e = go (isDigit x) e (first-past xs ys)
-  where
-    go : (b : Bool) → cond b (suc (firstNot isDigit xs)) zero ≡ suc (length xs) → (firstNot isDigit xs ≡ length xs → length xs ≤ firstNot isDigit (xs ++ ys)) → suc (length xs) ≤ cond b (suc (firstNot isDigit (xs ++ ys))) zero
-    go true e later = suc-le-suc (later (suc-inj e))
-    go false e later = omega arith
-
 -- what is known of bytes that begin with a listed identifier
 pub record Begun (bytes : List ℕ) (x : ℕ) : Type 0 where
   pub spelling : Spelling x
@@ -83,7 +73,7 @@ begun-of x rest e =
       spelling = s;
       decided = ap₂ (λ (a b : ℕ). digitsAfter (10 * valueOf a + valueOf b)) first second ∙ s .decided;
       front = take-at (spelled x) rest (length (spelled x)) refl;
-      run = rw four (first-past (spelled x) (take (4 - length (spelled x)) rest) (s .all-digits));
+      run = rw four (omega (arith, first-of-append isDigit (spelled x) (take (4 - length (spelled x)) rest) (s .all-digits)));
     }
 
 pub begun : (bytes : List ℕ) (x : ℕ) → identifierIn bytes ≡ some x → Begun bytes x
@@ -138,30 +128,6 @@ after-low p h = go (leb 10 p) refl
         let below : p < 10 = leb-false 10 p e in
         absurd (omega (arith, eqb-true (digitsAfter p) 2 (in-run (λ (q : ℕ). eqb (digitsAfter q) 2) 0 10 true tt p (omega arith) (omega arith))))
 
-take-two : (bytes : List ℕ) → 2 ≤ length bytes → take 2 bytes ≡ getD bytes 0 0 ∷ getD bytes 1 0 ∷ []
-take-two [] h = absurd (not-suc-le-zero h)
-take-two (a ∷ []) h = absurd (not-suc-le-zero (le-of-suc-le-suc h))
-take-two (a ∷ b ∷ rest) h = refl
-
-take-three : (bytes : List ℕ) → 3 ≤ length bytes → take 3 bytes ≡ getD bytes 0 0 ∷ getD bytes 1 0 ∷ getD bytes 2 0 ∷ []
-take-three [] h = absurd (not-suc-le-zero h)
-take-three (a ∷ rest) h = ap (λ (more : List ℕ). a ∷ more) (take-two rest (le-of-suc-le-suc h))
-
-take-four : (bytes : List ℕ) → 4 ≤ length bytes → take 4 bytes ≡ getD bytes 0 0 ∷ getD bytes 1 0 ∷ getD bytes 2 0 ∷ getD bytes 3 0 ∷ []
-take-four [] h = absurd (not-suc-le-zero h)
-take-four (a ∷ rest) h = ap (λ (more : List ℕ). a ∷ more) (take-three rest (le-of-suc-le-suc h))
-
--- a digit among those that the bytes begin with
-before-first : (xs : List ℕ) (i : ℕ) → i < firstNot isDigit xs → isDigit (getD xs i 0) ≡ true
-unfolding firstNot
-before-first [] i h = absurd (not-suc-le-zero h)
-before-first (x ∷ xs) i h = go (isDigit x) refl i h (before-first xs)
-  where
-    go : (b : Bool) → isDigit x ≡ b → (i : ℕ) → i < cond b (suc (firstNot isDigit xs)) zero → ((j : ℕ) → j < firstNot isDigit xs → isDigit (getD xs j 0) ≡ true) → isDigit (getD (x ∷ xs) i 0) ≡ true
-    go true p zero h later = p
-    go true p (suc i) h later = later i (le-of-suc-le-suc h)
-    go false p i h later = absurd (not-suc-le-zero h)
-
 module _ (bytes : List ℕ) where
   pub run-within : firstNot isDigit (take 4 bytes) ≤ length bytes
   run-within = omega (arith, first-within isDigit (take 4 bytes), length-take 4 bytes)
@@ -169,7 +135,7 @@ module _ (bytes : List ℕ) where
   pub leading-digit : (i : ℕ) → i < firstNot isDigit (take 4 bytes) → isDigit (getD bytes i 0) ≡ true
   leading-digit i h =
       let four : i < 4 = omega (arith, first-within isDigit (take 4 bytes), length-take 4 bytes) in
-      rw (getD-take 4 bytes i 0 four) at (before-first (take 4 bytes) i h)
+      rw (getD-take 4 bytes i 0 four) at (pass-before isDigit (take 4 bytes) i 0 h)
 
   abbrev pair : ℕ
   pair = pairAt bytes 0
@@ -180,7 +146,7 @@ module _ (bytes : List ℕ) where
       let zeroth = leading-digit 0 (omega arith) in
       let first = leading-digit 1 (omega arith) in
       let small : pair < 10000 = omega (arith, digit-range (getD bytes 0 0) zeroth, digit-range (getD bytes 1 0) first) in
-      decided bytes pair small (spell-two (getD bytes 0 0) (getD bytes 1 0) zeroth first ∙ sym (ap (λ (n : ℕ). take n bytes) e ∙ take-two bytes (omega arith)))
+      decided bytes pair small (spell-two (getD bytes 0 0) (getD bytes 1 0) zeroth first ∙ listed-front 2 bytes (omega arith) ∙ sym (ap (λ (n : ℕ). take n bytes) e))
 
   pub decided-by-three : 3 ≤ firstNot isDigit (take 4 bytes) → digitsAfter pair ≡ 3 → rowAt bytes ≡ rowOf (10 * pair + valueOf (getD bytes 2 0))
   decided-by-three h e =
@@ -190,7 +156,7 @@ module _ (bytes : List ℕ) where
       let second = leading-digit 2 (omega arith) in
       let small : 10 * pair + valueOf (getD bytes 2 0) < 10000 = omega (arith, digit-range (getD bytes 0 0) zeroth, digit-range (getD bytes 1 0) first, digit-range (getD bytes 2 0) second) in
       decided bytes (10 * pair + valueOf (getD bytes 2 0)) small
-      (spell-three (getD bytes 0 0) (getD bytes 1 0) (getD bytes 2 0) zeroth first second (after-low pair (omega arith)) ∙ sym (ap (λ (n : ℕ). take n bytes) e ∙ take-three bytes (omega arith)))
+      (spell-three (getD bytes 0 0) (getD bytes 1 0) (getD bytes 2 0) zeroth first second (after-low pair (omega arith)) ∙ listed-front 3 bytes (omega arith) ∙ sym (ap (λ (n : ℕ). take n bytes) e))
 
   pub decided-by-four : 4 ≤ firstNot isDigit (take 4 bytes) → digitsAfter pair ≡ 4 → rowAt bytes ≡ rowOf (100 * pair + pairAt bytes 2)
   decided-by-four h e =
@@ -201,4 +167,4 @@ module _ (bytes : List ℕ) where
       let third = leading-digit 3 (omega arith) in
       let small : 100 * pair + pairAt bytes 2 < 10000 = omega (arith, digit-range (getD bytes 0 0) zeroth, digit-range (getD bytes 1 0) first, digit-range (getD bytes 2 0) second, digit-range (getD bytes 3 0) third) in
       decided bytes (100 * pair + pairAt bytes 2) small
-      (spell-four (getD bytes 0 0) (getD bytes 1 0) (getD bytes 2 0) (getD bytes 3 0) zeroth first second third (after-low pair (omega arith)) ∙ sym (ap (λ (n : ℕ). take n bytes) e ∙ take-four bytes (omega arith)))
+      (spell-four (getD bytes 0 0) (getD bytes 1 0) (getD bytes 2 0) (getD bytes 3 0) zeroth first second third (after-low pair (omega arith)) ∙ listed-front 4 bytes (omega arith) ∙ sym (ap (λ (n : ℕ). take n bytes) e))

@@ -12,7 +12,7 @@ use lib.Seq.{drop-drop, drop-at}
 use lib.Dec.{eqb}
 use borrow.Author.Tests.{eqb-true, eq-eqb, ne-eqb, le-leb}
 use Rattle.laws.specs.First.{firstNot}
-use Rattle.laws.proofs.FirstLaws.{first-of-nil}
+use Rattle.laws.proofs.FirstLaws.{first-of-nil, pass-also, pass-append}
 use Rattle.refusal.specs.Outcome.{made}
 use Rattle.digits.specs.Digit.{isDigit}
 use Rattle.elements.specs.declared.Element.{Element}
@@ -28,7 +28,7 @@ use Rattle.elements.proofs.DecisionLaws.{spelling-of}
 use Rattle.elements.proofs.StringLaws.{data-part, string-right}
 use Rattle.elements.proofs.CountLaws.{from-last, from-made}
 use Rattle.elements.proofs.CutLaws.{closing-is}
-use Rattle.elements.proofs.PlainLaws.{separator-byte, pass-also, pass-append, digit-of-82, message-byte, sound, data-at-end, data-before}
+use Rattle.elements.proofs.PlainLaws.{separator-byte, digit-of-82, message-byte, sound, data-at-end, data-before}
 use Rattle.elements.proofs.FromRule.{named, joined-more, regroup}
 
 abbrev withContent : ℕ → List ℕ → ElementString

@@ -2,7 +2,7 @@
 -- no identifier was used before.
 use Prim.Native.Nat.{ℕ, zero, suc, _≤_}
 use mathlib.Core.Path.{_≡_, refl, sym, ap, ap₂, _∙_, subst}
-use mathlib.Core.Bool.{Bool, true, false, cond, not, _&&_}
+use mathlib.Core.Bool.{Bool, true, false, cond, not, _&&_, or-true}
 use mathlib.Core.List.{List, [], _∷_, _++_, map, append-assoc, append-nil}
 use native.Mathlib.Omega.{arith}
 use lib.ListN.{length, drop}
@@ -18,7 +18,7 @@ use Rattle.elements.specs.Characters.{among, isMessageByte}
 use Rattle.elements.specs.Identifiers.{spelled}
 use Rattle.elements.specs.Strings.{stringAt, stringsFrom, parsed, tested}
 use Rattle.elements.specs.Messages.{ElementString, AllRight, right-none, right-more, Different, different-none, different-more, closing, joined, IsMessage, stringOf}
-use Rattle.elements.proofs.AmongLaws.{or-true, among-of-nil, among-more, among-append}
+use Rattle.elements.proofs.AmongLaws.{among-of-nil, among-more, among-append}
 use Rattle.elements.proofs.StringLaws.{string-found, next-within}
 use Rattle.elements.proofs.CutLaws.{content-is, right-string, begins, goes-on, at-last, closes}
 

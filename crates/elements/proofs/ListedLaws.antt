@@ -2,7 +2,7 @@
 -- some bytes begin with is the only one.
 use Prim.Native.Nat.{ℕ}
 use mathlib.Core.Path.{_≡_, refl, sym, ap, _∙_, subst}
-use mathlib.Core.Bool.{Bool, true, false, cond, not, _&&_, _||_}
+use mathlib.Core.Bool.{Bool, true, false, cond, not, _&&_, _||_, or-true}
 use mathlib.Core.List.{List, [], _∷_, _++_}
 use mathlib.Core.Option.{some, none}
 use native.Mathlib.Omega.{arith}
@@ -16,7 +16,7 @@ use Rattle.patterns.proofs.PatternLaws.{same-true, same-refl}
 use Rattle.elements.specs.declared.identifiers.Kind.{Kind}
 use Rattle.elements.specs.Characters.{among}
 use Rattle.elements.specs.Identifiers.{measures, table, kindIn, kindOf, spelled, firstOf, identifiersOf, listed, identifierIn}
-use Rattle.elements.proofs.AmongLaws.{or-true, among-of-nil, among-more, among-append, all, all-among}
+use Rattle.elements.proofs.AmongLaws.{among-of-nil, among-more, among-append, all, all-among}
 
 -- a kind is that of a row whose identifiers have the one
 pub kind-among : (rows : List (List ℕ × Kind)) (x : ℕ) (kind : Kind) → kindIn rows x ≡ some kind → among (identifiersOf rows) x ≡ true

@@ -1,11 +1,10 @@
 -- Right data has no separator in it and no byte that a message can't have; so the bytes of strings that are joined are a message's, and
 -- data runs to the separator that was put after it, or to the end.
-use Prim.Native.Nat.{ℕ, zero, suc, _≤_}
-use mathlib.Core.Path.{_≡_, refl, sym, ap}
+use Prim.Native.Nat.{ℕ, _≤_}
+use mathlib.Core.Path.{_≡_, refl, sym}
 use mathlib.Core.Bool.{Bool, true, false, cond, not, _&&_}
 use mathlib.Core.List.{List, [], _∷_, _++_}
 use mathlib.Core.Option.{some}
-use native.Mathlib.Nat.{suc-inj}
 use native.Mathlib.Omega.{arith}
 use lib.ListN.{length, take}
 use lib.Seq.{take-all, take-at}
@@ -13,7 +12,7 @@ use lib.Dec.{eqb, leb}
 use borrow.Author.Tests.{eqb-true, leb-true}
 use Rattle.laws.specs.First.{firstNot}
 use Rattle.laws.proofs.Booleans.{both-hold}
-use Rattle.laws.proofs.FirstLaws.{all-pass, pass-all}
+use Rattle.laws.proofs.FirstLaws.{first-at-seam, pass-also}
 use Rattle.digits.specs.Digit.{isDigit}
 use Rattle.digits.proofs.DigitLaws.{digit-range}
 use Rattle.elements.specs.declared.identifiers.Content.{Content}
@@ -25,29 +24,6 @@ use Rattle.elements.specs.Identifiers.{table, kindOf}
 use Rattle.elements.specs.Strings.{dataOf}
 use Rattle.elements.proofs.AmongLaws.{in-run}
 use Rattle.elements.proofs.ListedLaws.{allRows, kind-passes}
-
--- where each element that passes one test passes another, lists do
-pub pass-also : (p q : ℕ → Bool) → ((b : ℕ) → p b ≡ true → q b ≡ true) → (xs : List ℕ) → firstNot p xs ≡ length xs → firstNot q xs ≡ length xs
-pass-also p q also xs e = pass-all q xs 0 (λ i h. also _ (all-pass p xs e i 0 h))
-
-pub pass-append : (p : ℕ → Bool) (xs ys : List ℕ) → firstNot p xs ≡ length xs → firstNot p ys ≡ length ys → firstNot p (xs ++ ys) ≡ length (xs ++ ys)
-unfolding firstNot
-pass-append p [] ys e d = d
-pass-append p (x ∷ xs) ys e d = go (p x) e (λ e′. pass-append p xs ys e′ d)
-  where
-    go : (b : Bool) → cond b (suc (firstNot p xs)) zero ≡ suc (length xs) → (firstNot p xs ≡ length xs → firstNot p (xs ++ ys) ≡ length (xs ++ ys)) → cond b (suc (firstNot p (xs ++ ys))) zero ≡ suc (length (xs ++ ys))
-    go true e later = ap suc (later (suc-inj e))
-    go false e later = absurd (omega arith)
-
--- the first element that fails, after those that pass
-pub first-at-seam : (p : ℕ → Bool) (xs : List ℕ) (y : ℕ) (ys : List ℕ) → firstNot p xs ≡ length xs → p y ≡ false → firstNot p (xs ++ y ∷ ys) ≡ length xs
-unfolding firstNot
-first-at-seam p [] y ys e d = rw d
-first-at-seam p (x ∷ xs) y ys e d = go (p x) e (λ e′. first-at-seam p xs y ys e′ d)
-  where
-    go : (b : Bool) → cond b (suc (firstNot p xs)) zero ≡ suc (length xs) → (firstNot p xs ≡ length xs → firstNot p (xs ++ y ∷ ys) ≡ length xs) → cond b (suc (firstNot p (xs ++ y ∷ ys))) zero ≡ suc (length xs)
-    go true e later = ap suc (later (suc-inj e))
-    go false e later = absurd (omega arith)
 
 pub digit-of-82 : (b : ℕ) → isDigit b ≡ true → isOf82 b ≡ true
 unfolding isOf82 eightyTwo placeIn firstNot

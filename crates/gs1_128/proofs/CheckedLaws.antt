@@ -1,7 +1,7 @@
 -- A symbol's characters up to its check character: another such list can't differ from it in one place alone, nor by two unequal neighbours
 -- after the start that have changed places, since the check would have moved.
 use Prim.Native.Nat.{ℕ, zero, suc, _+_, _≤_, _<_}
-use mathlib.Core.Path.{_≡_, refl, sym, ap, ap₂, _∙_}
+use mathlib.Core.Path.{_≡_, refl, sym, ap, ap₂, _∙_, subst}
 use mathlib.Core.Logic.{_≢_}
 use mathlib.Core.List.{List, [], _∷_, _++_}
 use native.Mathlib.Nat.{not-suc-le-zero, le-of-suc-le-suc}
@@ -10,6 +10,7 @@ use native.Mathlib.Omega.{arith}
 use lib.ListN.{length, getD, set, take, length-append, length-set, List·getD-append}
 use lib.Seq.{ext-getD, getD-at, getD-append-seam, getD-set-same, getD-set-other, set-getD, take-all, take-suc, length-take-le}
 use Rattle.laws.specs.Below.{Below}
+use Rattle.laws.proofs.BelowLaws.{below-more, below-last, below-greater}
 use Rattle.laws.proofs.Exchanged.{exchanged}
 use Rattle.code128.specs.Check.{checkOf}
 use Rattle.code128.proofs.CheckLaws.{check-below, check-of-replaced, check-of-exchanged, check-of-other-start, check-of-exchanged-check}
@@ -28,19 +29,13 @@ pub record Checked (characters : List ℕ) : Type 0 where
   pub allowed : Below 103 values
   pub whole : characters ≡ start ∷ withCheck start values
 
-with-check-below : (start : ℕ) (values : List ℕ) → Below 103 values → Below 103 (withCheck start values)
-with-check-below start values below j h = go (decLt j (length values))
-  where
-    go : Dec (j < length values) → getD (withCheck start values) j 0 < 103
-    go (yes l) = rw (List·getD-append values (checkOf start values ∷ []) 0 j l) (below j l)
-    go (no past) = rw (getD-at values (checkOf start values) [] 0 j (omega (arith, length-append values (checkOf start values ∷ [])))) (check-below start values)
+pub below-checked : (start : ℕ) (values : List ℕ) → start < 106 → Below 103 values → Below 106 (start ∷ withCheck start values)
+below-checked start values h below =
+    below-more 106 start (withCheck start values) h
+    (below-greater 103 106 (withCheck start values) (omega arith) (below-last 103 values (checkOf start values) below (check-below start values)))
 
 pub checked-below : {characters : List ℕ} → Checked characters → Below 106 characters
-checked-below a j h = rw (a .whole) (go j (rw (a .whole) at h))
-  where
-    go : (j : ℕ) → j < suc (length (withCheck (a .start) (a .values))) → getD (a .start ∷ withCheck (a .start) (a .values)) j 0 < 106
-    go zero h = omega (arith, a .most-start)
-    go (suc j) h = omega (arith, with-check-below (a .start) (a .values) (a .allowed) j (le-of-suc-le-suc h))
+checked-below a = subst (Below 106) (sym (a .whole)) (below-checked (a .start) (a .values) (omega (arith, a .most-start)) (a .allowed))
 
 last-same : (xs ys : List ℕ) (a b : ℕ) → xs ++ (a ∷ []) ≡ ys ++ (b ∷ []) → (xs ≡ ys) × (a ≡ b)
 last-same [] [] a b e = (refl, cc)

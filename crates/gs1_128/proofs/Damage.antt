@@ -10,6 +10,7 @@ use native.Mathlib.Omega.{arith}
 use lib.ListN.{length, getD, set, length-append, length-set, List·getD-append}
 use lib.Seq.{getD-set-same, getD-set-other}
 use Rattle.laws.specs.Below.{Below}
+use Rattle.laws.proofs.BelowLaws.{below-set, below-exchanged}
 use Rattle.laws.proofs.Exchanged.{exchanged}
 use Rattle.refusal.specs.declared.Refusal.{Refusal}
 use Rattle.refusal.specs.Outcome.{Outcome, made, refused}
@@ -21,7 +22,7 @@ use Rattle.gs1_128.specs.Damage.{allPatterns, charactersOf, setBoth, tur
 use Rattle.gs1_128.proofs.Theorems.{read-as-symbol, call-reads-symbol}
 use Rattle.gs1_128.proofs.CheckedLaws.{one-place, one-exchange}
 use Rattle.gs1_128.proofs.DamageLaws.{IsDrawnFrom, beforeStop, drawn-from, below-stop, six-elsewhere, six-inside, six-has, length-of-drawn-from, drawn-once, one-character, one-width}
-use Rattle.gs1_128.proofs.RedrawnLaws.{below-set, drawn-with-stop, replaced-by-six, replaced-apart, exchanged-below, exchanged-drawn}
+use Rattle.gs1_128.proofs.RedrawnLaws.{drawn-with-stop, replaced-by-six, replaced-apart, exchanged-drawn}
 
 -- the drawn characters are the symbol's widths
 pub drawn-of-characters : {widths message : List ℕ} (s : IsSymbol widths message) → drawn allPatterns (charactersOf s) ≡ widths
@@ -63,7 +64,7 @@ module _ {widths message : List ℕ} (s : IsSymbol widths message) where
   exchanged-is-none : {message′ : List ℕ} (k : ℕ) → 1 ≤ k → k + 2 < length (charactersOf s) → getD (charactersOf s) k 0 ≢ getD (charactersOf s) (suc k) 0 → IsSymbol (drawn allPatterns (turned (charactersOf s) k)) message′ → ⊥
   exchanged-is-none k least h unequal s′ =
       let inside : suc k < length xs = omega (arith, length-append xs (106 ∷ [])) in
-      let is : beforeStop s′ ≡ exchanged k xs = same-characters s′ (exchanged k xs) (exchanged-below xs (below-stop s) k inside) (exchanged-drawn xs (below-stop s) k inside) in
+      let is : beforeStop s′ ≡ exchanged k xs = same-characters s′ (exchanged k xs) (below-exchanged 106 k xs inside (below-stop s)) (exchanged-drawn xs (below-stop s) k inside) in
       unequal
       (List·getD-append xs (106 ∷ []) 0 k (omega arith)
       ∙ one-exchange (a .checked) (drawn-from s′ .checked) k least inside is

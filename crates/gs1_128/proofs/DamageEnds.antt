@@ -10,18 +10,18 @@ use lib.ListN.{length, getD, set, drop, length-append, length-set}
 use lib.Seq.{getD-drop, getD-set-other, getD-append-add}
 use lib.Dec.{T, eqb, eqb→eq}
 use Rattle.laws.specs.Below.{Below}
+use Rattle.laws.proofs.BelowLaws.{below-set, below-exchanged}
 use Rattle.laws.proofs.Exchanged.{exchanged, length-exchanged}
 use Rattle.laws.proofs.Tables.{every, at-entry}
 use Rattle.patterns.specs.Patterns.{drawn}
-use Rattle.patterns.proofs.CharacterLaws.{length-of-drawn}
 use Rattle.code128.specs.Characters.{patterns, stop}
-use Rattle.code128.proofs.PatternLaws.{patterns-are, patterns-sized}
 use Rattle.gs1_128.specs.Symbol.{starts}
 use Rattle.gs1_128.specs.Right.{IsSymbol}
 use Rattle.gs1_128.specs.Damage.{allPatterns, charactersOf, setBoth, Damaged, character-replaced, neighbours-exchanged, edge-moved, width-changed}
 use Rattle.gs1_128.proofs.TableLaws.{starts-are}
-use Rattle.gs1_128.proofs.DamageLaws.{beforeStop, drawn-from, below-stop, six-of, six-has, length-of-drawn-from, length-of-drawn-stop}
-use Rattle.gs1_128.proofs.RedrawnLaws.{below-set, replaced-by-six, replaced-apart, exchanged-below, exchanged-drawn}
+use Rattle.gs1_128.proofs.DrawnLaws.{length-drawn, length-stopped}
+use Rattle.gs1_128.proofs.DamageLaws.{beforeStop, drawn-from, below-stop, six-of, six-has, length-of-drawn-from}
+use Rattle.gs1_128.proofs.RedrawnLaws.{replaced-by-six, replaced-apart, exchanged-drawn}
 
 -- every start begins with 2, and the stop ends with it
 starts-begin : T (every (λ (k : ℕ) (pattern : List ℕ). eqb (getD pattern 0 0) 2) starts)
@@ -37,7 +37,7 @@ start-begins start least most =
 
 drawn-ends : (characters : List ℕ) → Below 106 characters → getD (drawn patterns characters ++ stop) (6 * length characters + 6) 0 ≡ 2
 drawn-ends characters below =
-    let at : 6 * length characters + 6 ≡ length (drawn patterns characters) + 6 = omega (arith, length-of-drawn patterns 6 patterns-sized characters (rw patterns-are below)) in
+    let at : 6 * length characters + 6 ≡ length (drawn patterns characters) + 6 = omega (arith, length-drawn characters below) in
     ap (λ (n : ℕ). getD (drawn patterns characters ++ stop) n 0) at ∙ getD-append-add (drawn patterns characters) stop 6 0
 
 module _ {widths message : List ℕ} (s : IsSymbol widths message) where
@@ -56,7 +56,7 @@ module _ {widths message : List ℕ} (s : IsSymbol widths message) where
   -- characters as many as the symbol's, drawn before the stop
   redrawn : (damaged characters : List ℕ) → Below 106 characters → length characters ≡ length xs → damaged ≡ drawn patterns characters ++ stop → (length damaged ≡ length widths) × (getD damaged (6 * length xs + 6) 0 ≡ 2)
   redrawn damaged characters below count is = (
-    ap length is ∙ length-of-drawn-stop characters below ∙ omega (arith, size),
+    ap length is ∙ length-stopped characters below ∙ omega (arith, size),
     ap (λ (n : ℕ). getD damaged (6 * n + 6) 0) (sym count) ∙ ap (λ (zs : List ℕ). getD zs (6 * length characters + 6) 0) is ∙ drawn-ends characters below,
   )
 
@@ -74,7 +74,7 @@ module _ {widths message : List ℕ} (s : IsSymbol widths message) where
       go (inr even) = inl even
   kept (neighbours-exchanged k least h unequal) =
       let inside : suc k < length xs = omega (arith, length-append xs (106 ∷ [])) in
-      let again = redrawn _ (exchanged k xs) (exchanged-below xs (below-stop s) k inside) (length-exchanged k xs) (exchanged-drawn xs (below-stop s) k inside) in
+      let again = redrawn _ (exchanged k xs) (below-exchanged 106 k xs inside (below-stop s)) (length-exchanged k xs) (exchanged-drawn xs (below-stop s) k inside) in
       inr (again .0, inr (again .1))
   kept (edge-moved i x y h shared other) = inr (length-set (set widths i x) (suc i) y ∙ length-set widths i x, go (ℕ-discrete i 0))
     where

@@ -7,19 +7,22 @@ use mathlib.Core.List.{List, [], _∷_, _++_, append-assoc}
 use native.Mathlib.Nat.{not-suc-le-zero, le-of-suc-le-suc}
 use native.Mathlib.Decide.{decLt}
 use native.Mathlib.Omega.{arith}
-use lib.ListN.{length, getD, set, take, drop, length-append}
+use lib.ListN.{length, getD, set, take, drop}
 use lib.Seq.{take-at, drop-at, drop-drop, getD-take, getD-drop, drop-set-lt, drop-set-add, take-set-le, take-set-lt}
 use Rattle.laws.specs.Below.{Below}
+use Rattle.laws.specs.Sum.{sum}
+use Rattle.laws.proofs.BelowLaws.{below-more, below-first, below-rest}
+use Rattle.laws.proofs.SumLaws.{sum-of-set}
 use Rattle.refusal.proofs.OutcomeLaws.{made-same}
 use Rattle.patterns.specs.Patterns.{valueIn, drawn, characters}
 use Rattle.patterns.proofs.PatternLaws.{value-at}
-use Rattle.patterns.proofs.CharacterLaws.{length-of-drawn, characters-of-drawn}
+use Rattle.patterns.proofs.CharacterLaws.{characters-of-drawn}
 use Rattle.code128.specs.Characters.{patterns, stop}
 use Rattle.code128.specs.Check.{checkOf}
-use Rattle.code128.proofs.PatternLaws.{sum, patterns-are, patterns-sized, patterns-distinct, pattern-length, pattern-sum}
+use Rattle.code128.proofs.PatternLaws.{patterns-are, patterns-sized, patterns-distinct, pattern-length, pattern-sum}
 use Rattle.gs1_128.specs.Symbol.{symbolOf}
 use Rattle.gs1_128.specs.Right.{IsSymbol}
-use Rattle.gs1_128.proofs.SymbolLaws.{below-more}
+use Rattle.gs1_128.proofs.DrawnLaws.{length-stopped}
 use Rattle.gs1_128.proofs.CheckedLaws.{Checked, checked-below, AgreeBut, one-place}
 
 -- the six widths of the character at k
@@ -57,32 +60,24 @@ unfolding drawn
 six-of-drawn [] rest below k h = absurd (not-suc-le-zero h)
 six-of-drawn (x ∷ xs) rest below zero h =
     let row = getD patterns x [] in
-    ap (take 6) (append-assoc row (drawn patterns xs) rest) ∙ take-at row (drawn patterns xs ++ rest) 6 (pattern-length x (below 0 (omega arith)))
+    ap (take 6) (append-assoc row (drawn patterns xs) rest) ∙ take-at row (drawn patterns xs ++ rest) 6 (pattern-length x (below-first 106 x xs below))
 six-of-drawn (x ∷ xs) rest below (suc k) h =
     let row = getD patterns x [] in
     let onward = drawn patterns xs ++ rest in
     let at : 6 * suc k ≡ 6 + 6 * k = omega arith in
     ap₂ (λ (n : ℕ) (l : List ℕ). take 6 (drop n l)) at (append-assoc row (drawn patterns xs) rest)
     ∙ ap (take 6) (sym (drop-drop (6 * k) 6 (row ++ onward)))
-    ∙ ap (sixAt k) (drop-at row onward 6 (pattern-length x (below 0 (omega arith))))
-    ∙ six-of-drawn xs rest (λ j l. below (suc j) (omega arith)) k (le-of-suc-le-suc h)
-
-pub length-of-drawn-stop : (xs : List ℕ) → Below 106 xs → length (drawn patterns xs ++ stop) ≡ 6 * length xs + 7
-length-of-drawn-stop xs below = length-append (drawn patterns xs) stop ∙ omega (arith, length-of-drawn patterns 6 patterns-sized xs (rw patterns-are below))
+    ∙ ap (sixAt k) (drop-at row onward 6 (pattern-length x (below-first 106 x xs below)))
+    ∙ six-of-drawn xs rest (below-rest 106 x xs below) k (le-of-suc-le-suc h)
 
 -- the widths of a list of characters and the stop are those of no other list
 pub drawn-once : (xs ys : List ℕ) → Below 106 xs → Below 106 ys → drawn patterns xs ++ stop ≡ drawn patterns ys ++ stop → xs ≡ ys
 drawn-once xs ys below below′ e =
-    let counts : length xs ≡ length ys = omega (arith, length-of-drawn-stop xs below, length-of-drawn-stop ys below′, ap length e) in
+    let counts : length xs ≡ length ys = omega (arith, length-stopped xs below, length-stopped ys below′, ap length e) in
     made-same xs ys
     (sym (characters-of-drawn patterns 6 patterns-sized patterns-distinct xs (rw patterns-are below) 0 stop)
     ∙ ap₂ (λ (n : ℕ) (widths : List ℕ). characters patterns 6 n 0 widths) counts e
     ∙ characters-of-drawn patterns 6 patterns-sized patterns-distinct ys (rw patterns-are below′) 0 stop)
-
-sum-of-set : (xs : List ℕ) (i x : ℕ) → i < length xs → sum (set xs i x) + getD xs i 0 ≡ sum xs + x
-sum-of-set [] i x h = absurd (not-suc-le-zero h)
-sum-of-set (y ∷ ys) zero x h = omega arith
-sum-of-set (y ∷ ys) (suc i) x h = omega (arith, sum-of-set ys i x (le-of-suc-le-suc h))
 
 -- a symbol, by its characters before the stop
 pub record IsDrawnFrom (widths characters : List ℕ) : Type 0 where
@@ -94,7 +89,7 @@ module _ {widths xs : List ℕ} (a : IsDrawnFrom widths xs) where
   below = checked-below (a .checked)
 
   pub length-of-drawn-from : length widths ≡ 6 * length xs + 7
-  length-of-drawn-from = ap length (a .is) ∙ length-of-drawn-stop xs below
+  length-of-drawn-from = ap length (a .is) ∙ length-stopped xs below
 
   pub six-of : (k : ℕ) → k < length xs → sixAt k widths ≡ getD patterns (getD xs k 0) []
   six-of k h = ap (sixAt k) (a .is) ∙ six-of-drawn xs stop below k h

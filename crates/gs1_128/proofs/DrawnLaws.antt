@@ -1,11 +1,12 @@
 -- Characters drawn at the front of a list and the stop after them: they fill it as far as the widths of the symbol go.
-use Prim.Native.Nat.{ℕ, _+_, _*_, _≤_}
-use mathlib.Core.Path.{_≡_, sym, ap, ap₂, _∙_}
-use mathlib.Core.List.{List, [], _++_, append-assoc}
+use Prim.Native.Nat.{ℕ, _+_, _-_, _*_, _≤_}
+use mathlib.Core.Path.{_≡_, ap, _∙_}
+use mathlib.Core.List.{List, [], _++_}
 use native.Mathlib.Omega.{arith}
 use lib.ListN.{length, take, drop, drop-of-length-le, length-append, length-take, length-drop}
-use lib.Seq.{take-at, drop-at, drop-drop}
+use lib.Seq.{drop-at}
 use Rattle.laws.specs.Below.{Below}
+use Rattle.laws.proofs.Parts.{next-part}
 use Rattle.refusal.specs.Outcome.{Outcome}
 use Rattle.refusal.specs.Fills.{laid, laying}
 use Rattle.refusal.proofs.FillsLaws.{laying-made}
@@ -32,7 +33,5 @@ module _ (front widths : List ℕ) (end : ℕ) (fits : end + 7 ≤ length widths
       let seven : length (take k (drop end so-far)) ≡ 7 = ap (λ (l : List ℕ). length (take k l)) back ∙ simp (length-take, length-drop) (omega arith) in
       let none : drop 7 (take k (drop end so-far)) ≡ [] = drop-of-length-le (take k (drop end so-far)) {i = 7} (omega arith) in
       let last : stopped ≡ stop = e ∙ ap (λ (o : Outcome (List ℕ)). laid o (take k (drop end so-far))) (laying-made stop (length (take k (drop end so-far))) (omega arith)) ∙ ap (λ (l : List ℕ). stop ++ l) none in
-      let over : m + k ≡ end + 7 = omega arith in
-      let rest : drop k (drop end so-far) ≡ drop (end + 7) widths = ap (drop k) back ∙ drop-drop k m widths ∙ ap (λ (n : ℕ). drop n widths) over in
-      ap₂ (λ (a b : List ℕ). a ++ b) (take-at front (drop m widths) end ends) (ap₂ (λ (a b : List ℕ). a ++ b) last rest)
-      ∙ sym (append-assoc front stop (drop (end + 7) widths))
+      let size : k ≡ end + 7 - end = omega arith in
+      rw (last, em, size) (next-part widths front stop end (end + 7) ends (omega arith))

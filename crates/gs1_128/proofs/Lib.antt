@@ -4,8 +4,6 @@ pub mod TableLaws
 pub mod CountLaws
 pub mod SymbolLaws
 pub mod ReadingLaws
-pub mod OwnLaws
-pub mod ScanLaws
 pub mod TextLaws
 pub mod StageLaws
 pub mod WithCheckLaws

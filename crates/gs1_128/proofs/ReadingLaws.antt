@@ -11,6 +11,7 @@ use lib.Seq.{take-at, take-all, take-suc, drop-cons, drop-drop, getD-take, getD-
 use lib.Dec.{leb, ltb, eqb}
 use borrow.Author.Tests.{le-leb, leb-true, ltb-true, eq-eqb, eqb-true}
 use Rattle.laws.specs.Below.{Below}
+use Rattle.laws.proofs.BelowLaws.{below-more}
 use Rattle.laws.proofs.Booleans.{both-hold}
 use Rattle.refusal.specs.declared.Refusal.the-variants.{Count, Guard, CheckCharacter, FirstCharacter}
 use Rattle.refusal.specs.Outcome.{made}
@@ -23,7 +24,7 @@ use Rattle.code128.specs.Check.{checkOf}
 use Rattle.gs1_128.specs.Symbol.{Scanned, symbolOf, permitted, countOf, starts, allowed, startOf, guarded, scanned}
 use Rattle.gs1_128.proofs.CountLaws.{Counted, count-permitted}
 use Rattle.gs1_128.proofs.TableLaws.{allowed-are, starts-are}
-use Rattle.gs1_128.proofs.SymbolLaws.{below-more, symbol-parts, length-of-symbol, count-of-symbol, start-of-symbol, guarded-symbol, characters-of-symbol}
+use Rattle.gs1_128.proofs.SymbolLaws.{symbol-parts, length-of-symbol, count-of-symbol, start-of-symbol, guarded-symbol, characters-of-symbol}
 
 -- the widths are the symbol of a start, the first FNC1 and 1 to 99 values
 pub record IsDrawn (widths : List ℕ) (symbol : Scanned) : Type 0 where

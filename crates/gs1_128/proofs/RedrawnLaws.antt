@@ -5,17 +5,18 @@ use mathlib.Core.Path.{_≡_, sym, ap, ap₂, _∙_}
 use mathlib.Core.Logic.{_≢_, _⊎_, inl, inr}
 use mathlib.Core.List.{List, [], _∷_, _++_, append-assoc}
 use native.Mathlib.Nat.{not-suc-le-zero, le-of-suc-le-suc}
-use native.Mathlib.Decide.{decLt, ℕ-discrete}
+use native.Mathlib.Decide.{decLt}
 use native.Mathlib.Omega.{arith}
 use lib.ListN.{length, getD, set, length-append, length-set, List·getD-append}
-use lib.Seq.{set-append-left, getD-at, getD-set-same, getD-set-other}
+use lib.Seq.{set-append-left, getD-at}
 use Rattle.laws.specs.Below.{Below}
+use Rattle.laws.proofs.BelowLaws.{below-first, below-rest, below-set, below-exchanged}
 use Rattle.laws.proofs.Exchanged.{exchanged, exchanged-sets}
 use Rattle.patterns.specs.Patterns.{drawn}
 use Rattle.code128.specs.Characters.{patterns, stop}
 use Rattle.code128.proofs.PatternLaws.{patterns-are, pattern-length}
 use Rattle.gs1_128.specs.Damage.{allPatterns, setBoth, turned}
-use Rattle.gs1_128.proofs.DamageLaws.{length-of-drawn-stop}
+use Rattle.gs1_128.proofs.DrawnLaws.{length-stopped}
 
 -- the rows of the 107
 row-of : (v : ℕ) → v < 106 → getD allPatterns v [] ≡ getD patterns v []
@@ -32,7 +33,7 @@ pub drawn-with-stop : (xs : List ℕ) → Below 106 xs → drawn allPatterns (xs
 unfolding drawn
 drawn-with-stop [] below = ap (λ (row : List ℕ). row ++ []) row-of-stop
 drawn-with-stop (x ∷ xs) below =
-    ap₂ (λ (row rest : List ℕ). row ++ rest) (row-of x (below 0 (omega arith))) (drawn-with-stop xs (λ j h. below (suc j) (omega arith)))
+    ap₂ (λ (row rest : List ℕ). row ++ rest) (row-of x (below-first 106 x xs below)) (drawn-with-stop xs (below-rest 106 x xs below))
     ∙ sym (append-assoc (getD patterns x []) (drawn patterns xs) stop)
 
 -- the count of widths changes as the size of the character does
@@ -41,13 +42,6 @@ unfolding drawn
 length-of-replaced [] k c h = absurd (not-suc-le-zero h)
 length-of-replaced (x ∷ xs) zero c h = omega (arith, length-append (getD allPatterns x []) (drawn allPatterns xs), length-append (getD allPatterns c []) (drawn allPatterns xs))
 length-of-replaced (x ∷ xs) (suc k) c h = omega (arith, length-append (getD allPatterns x []) (drawn allPatterns xs), length-append (getD allPatterns x []) (drawn allPatterns (set xs k c)), length-of-replaced xs k c (le-of-suc-le-suc h))
-
-pub below-set : (n : ℕ) (xs : List ℕ) (k c : ℕ) → Below n xs → c < n → Below n (set xs k c)
-below-set n xs k c below l j h = go (ℕ-discrete j k)
-  where
-    go : Dec (j ≡ k) → getD (set xs k c) j 0 < n
-    go (yes is) = rw (is, getD-set-same xs k c 0 (omega (arith, length-set xs k c))) l
-    go (no other) = rw (getD-set-other xs k j c 0 other) (below j (omega (arith, length-set xs k c)))
 
 -- of characters before a stop
 module _ (xs : List ℕ) (below : Below 106 xs) where
@@ -66,7 +60,7 @@ module _ (xs : List ℕ) (below : Below 106 xs) where
   replaced-apart k c h l other = go (decLt k (length xs)) (decLt c 106)
     where
       counts : length (drawn allPatterns (set full k c)) + length (getD allPatterns (getD full k 0) []) ≡ (6 * length xs + 7) + length (getD allPatterns c [])
-      counts = length-of-replaced full k c h ∙ ap (λ (n : ℕ). n + length (getD allPatterns c [])) (ap length (drawn-with-stop xs below) ∙ length-of-drawn-stop xs below)
+      counts = length-of-replaced full k c h ∙ ap (λ (n : ℕ). n + length (getD allPatterns c [])) (ap length (drawn-with-stop xs below) ∙ length-stopped xs below)
 
       seven : (v : ℕ) → v ≡ 106 → length (getD allPatterns v []) ≡ 7
       seven v e = ap (λ (w : ℕ). length (getD allPatterns w [])) e ∙ ap length row-of-stop
@@ -92,10 +86,5 @@ module _ (xs : List ℕ) (below : Below 106 xs) where
       ∙ set-append-left (set xs k b) (106 ∷ []) (suc k) a (omega (arith, length-set xs k b))
       ∙ ap (λ (zs : List ℕ). zs ++ (106 ∷ [])) (sym (exchanged-sets k xs 0 h))
 
-  pub exchanged-below : (k : ℕ) → suc k < length xs → Below 106 (exchanged k xs)
-  exchanged-below k h =
-      rw (exchanged-sets k xs 0 h)
-      (below-set 106 (set xs k (getD xs (suc k) 0)) (suc k) (getD xs k 0) (below-set 106 xs k (getD xs (suc k) 0) below (below (suc k) h)) (below k (omega arith)))
-
   pub exchanged-drawn : (k : ℕ) → suc k < length xs → drawn allPatterns (turned full k) ≡ drawn patterns (exchanged k xs) ++ stop
-  exchanged-drawn k h = ap (drawn allPatterns) (exchanged-is k h) ∙ drawn-with-stop (exchanged k xs) (exchanged-below k h)
+  exchanged-drawn k h = ap (drawn allPatterns) (exchanged-is k h) ∙ drawn-with-stop (exchanged k xs) (below-exchanged 106 k xs h below)

@@ -1,10 +1,9 @@
 -- The scan and the drawing of a symbol undo one another: the start is one of three patterns at the front, the stop is the last seven
 -- widths, and the characters between them are a table's, the check character last.
-use Prim.Native.Nat.{ℕ, zero, suc, _+_, _-_, _*_, _≤_, _<_}
+use Prim.Native.Nat.{ℕ, _+_, _-_, _*_, _≤_, _<_}
 use mathlib.Core.Path.{_≡_, refl, sym, ap, ap₂, _∙_}
 use mathlib.Core.Bool.{true}
 use mathlib.Core.List.{List, [], _∷_, _++_, append-assoc}
-use native.Mathlib.Nat.{le-of-suc-le-suc}
 use native.Mathlib.Omega.{arith}
 use lib.ListN.{length, getD, take, drop, length-append}
 use lib.Seq.{take-at, drop-at, drop-drop, getD-take, getD-drop}
@@ -12,6 +11,7 @@ use lib.Dec.{T}
 use borrow.Author.Tests.{lt-ltb}
 use Rattle.laws.specs.Below.{Below}
 use Rattle.laws.specs.First.{firstNot}
+use Rattle.laws.proofs.BelowLaws.{below-first, below-rest, below-last}
 use Rattle.refusal.specs.Outcome.{made}
 use Rattle.patterns.specs.Patterns.{same, valueIn, drawn, characters}
 use Rattle.patterns.proofs.PatternLaws.{same-refl, distinct, value-of}
@@ -36,28 +36,12 @@ starts-distinct : T (distinct starts)
 unfolding patterns valueIn same firstNot
 starts-distinct = tt
 
-below-first : (n v : ℕ) (values : List ℕ) → Below n (v ∷ values) → v < n
-below-first n v values within = within 0 (omega arith)
-
-below-rest : (n v : ℕ) (values : List ℕ) → Below n (v ∷ values) → Below n values
-below-rest n v values within i h = within (suc i) (omega arith)
-
-pub below-more : (n v : ℕ) (values : List ℕ) → v < n → Below n values → Below n (v ∷ values)
-below-more n v values h within zero l = h
-below-more n v values h within (suc i) l = within i (le-of-suc-le-suc l)
-
 -- values that are allowed after the start are drawn alike from their part of the table and from the whole
 drawn-allowed : (values : List ℕ) → Below 103 values → drawn patterns values ≡ drawn allowed values
 unfolding drawn
 drawn-allowed [] within = refl
 drawn-allowed (v ∷ values) within =
     ap₂ (λ (row rest : List ℕ). row ++ rest) (sym (getD-take 103 patterns v [] (below-first 103 v values within))) (drawn-allowed values (below-rest 103 v values within))
-
-below-last : (n : ℕ) (values : List ℕ) (v : ℕ) → Below n values → v < n → Below n (values ++ (v ∷ []))
-below-last n [] v within h zero l = h
-below-last n [] v within h (suc i) l = absurd (omega arith)
-below-last n (x ∷ values) v within h zero l = below-first n x values within
-below-last n (x ∷ values) v within h (suc i) l = below-last n values v (below-rest n x values within) h i (le-of-suc-le-suc l)
 
 -- of a start and the values after it
 module _ (start : ℕ) (values : List ℕ) (least : 103 ≤ start) (most : start ≤ 105) (within : Below 103 values) where

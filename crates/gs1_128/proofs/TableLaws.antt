@@ -1,16 +1,15 @@
 -- The starts are the patterns from 103 on, and the patterns allowed after the start are those before: so the value that widths have in the
 -- whole table, where no two patterns are equal, says which they have in either part.
-use Prim.Native.Nat.{ℕ, zero, suc, _+_, _≤_, _<_, min}
+use Prim.Native.Nat.{ℕ, _+_, _≤_, _<_, min}
 use mathlib.Core.Path.{_≡_, refl, sym, _∙_}
 use mathlib.Core.Bool.{Bool, true, false, not, cond}
-use mathlib.Core.List.{List, [], _∷_}
-use native.Mathlib.Nat.{le-of-suc-le-suc}
+use mathlib.Core.List.{List, []}
 use native.Mathlib.Omega.{arith}
-use lib.ListN.{length, getD, take, drop}
+use lib.ListN.{length, getD}
 use lib.Seq.{getD-drop}
 use lib.Dec.{ltb}
 use borrow.Author.Tests.{lt-ltb, ltb-true, ltb-false}
-use Rattle.laws.specs.First.{firstNot}
+use Rattle.laws.proofs.FirstLaws.{first-of-take, first-of-drop}
 use Rattle.patterns.specs.Patterns.{same, valueIn}
 use Rattle.patterns.proofs.PatternLaws.{value-within, value-of, value-none}
 use Rattle.code128.specs.declared.characters.Match.{Match}
@@ -20,27 +19,6 @@ use Rattle.code128.specs.Matching.{matchOf}
 use Rattle.code128.proofs.PatternLaws.{patterns-are, patterns-distinct}
 use Rattle.gs1_128.specs.Symbol.{starts, allowed}
 use Rattle.gs1_128.specs.Stages.{allowedMatch}
-
-module _ {A : Type 0} (passes : A → Bool) where
-  first-of-take : (k : ℕ) (xs : List A) → firstNot passes (take k xs) ≡ min k (firstNot passes xs)
-  unfolding firstNot
-  first-of-take zero xs = omega arith
-  first-of-take (suc k) [] = omega arith
-  first-of-take (suc k) (x ∷ xs) = go (passes x) (first-of-take k xs)
-    where
-      go : (b : Bool) → firstNot passes (take k xs) ≡ min k (firstNot passes xs) → cond b (suc (firstNot passes (take k xs))) zero ≡ min (suc k) (cond b (suc (firstNot passes xs)) zero)
-      go true rest = omega arith
-      go false rest = omega arith
-
-  first-of-drop : (k : ℕ) (xs : List A) → k ≤ firstNot passes xs → firstNot passes xs ≡ k + firstNot passes (drop k xs)
-  unfolding firstNot
-  first-of-drop zero xs h = omega arith
-  first-of-drop (suc k) [] h = absurd (omega arith)
-  first-of-drop (suc k) (x ∷ xs) h = go (passes x) h (first-of-drop k xs)
-    where
-      go : (b : Bool) → suc k ≤ cond b (suc (firstNot passes xs)) zero → (k ≤ firstNot passes xs → firstNot passes xs ≡ k + firstNot passes (drop k xs)) → cond b (suc (firstNot passes xs)) zero ≡ suc k + firstNot passes (drop k xs)
-      go true h rest = omega (arith, rest (le-of-suc-le-suc h))
-      go false h rest = absurd (omega arith)
 
 pub allowed-are : length allowed ≡ 103
 unfolding patterns

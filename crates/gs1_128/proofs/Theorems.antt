@@ -6,6 +6,7 @@ use mathlib.Core.List.{List, [], _∷_, map}
 use mathlib.Core.Logic.{_↔_}
 use native.Mathlib.Omega.{arith}
 use lib.ListN.{length}
+use Rattle.laws.proofs.BelowLaws.{below-more}
 use Rattle.refusal.specs.Outcome.{made}
 use Rattle.refusal.specs.Fills.{laying}
 use Rattle.refusal.proofs.OutcomeLaws.{made-same, bind-made}
@@ -22,7 +23,6 @@ use Rattle.code128.proofs.Theorems.{decoded-as-spelled}
 use Rattle.gs1_128.specs.Symbol.{scanned}
 use Rattle.gs1_128.specs.Calls.{messageIn, reads}
 use Rattle.gs1_128.specs.Right.{IsSymbol}
-use Rattle.gs1_128.proofs.SymbolLaws.{below-more}
 pub use Rattle.gs1_128.proofs.SymbolLaws.{length-of-symbol}
 pub use Rattle.gs1_128.proofs.ReadingLaws.{IsDrawn, scanned-as-drawn, one-spelling}
 

@@ -92,9 +92,9 @@ impl Gs1128 {
         let Answer::Done(count) = read else {
             return read;
         };
-        let tested = elements::test(&text[..count]);
-        let Answer::Done(_) = tested else {
-            return tested;
+        let judged = elements::test(&text[..count]);
+        let Answer::Done(_) = judged else {
+            return judged;
         };
         read
     }

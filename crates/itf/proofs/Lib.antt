@@ -1,6 +1,5 @@
 -- The laws of ITF-14's table, its pairs, its scan and its symbol; the theorems stand in Theorems.
 pub mod Copied
-pub mod DrawnSums
 pub mod MatchLaws
 pub mod PairedLaws
 pub mod PairLaws

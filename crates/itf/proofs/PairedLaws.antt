@@ -1,5 +1,5 @@
 -- Digits taken two by two, and back: a pair's digits stand at twice its place and one further.
-use Prim.Native.Nat.{ℕ, zero, suc, _+_, _*_, _/_, _%_, _<_, suc-le-suc}
+use Prim.Native.Nat.{ℕ, zero, suc, _+_, _*_, _/_, _%_, _<_}
 use mathlib.Core.Path.{_≡_, refl, ap, ap₂}
 use mathlib.Core.List.{List, [], _∷_, _++_}
 use native.Mathlib.Nat.{le-of-suc-le-suc, not-suc-le-zero}
@@ -8,6 +8,7 @@ use native.Mathlib.Omega.{arith}
 use lib.ListN.{length, getD, drop}
 use lib.Seq.{drop-cons}
 use Rattle.laws.specs.Below.{Below}
+use Rattle.laws.proofs.BelowLaws.{below-rest, below-drop}
 use Rattle.patterns.specs.Patterns.{drawn}
 use Rattle.itf.specs.Itf14.{paired, unpaired}
 
@@ -41,7 +42,7 @@ unpaired-digits [] below i h = absurd (not-suc-le-zero h)
 unpaired-digits (v ∷ values) below zero h = omega (arith, below 0 (omega arith))
 unpaired-digits (v ∷ values) below (suc zero) h = omega arith
 unpaired-digits (v ∷ values) below (suc (suc i)) h =
-    unpaired-digits values (λ j g. below (suc j) (suc-le-suc g)) i (le-of-suc-le-suc (le-of-suc-le-suc h))
+    unpaired-digits values (below-rest 100 v values below) i (le-of-suc-le-suc (le-of-suc-le-suc h))
 
 pub paired-of-unpaired : (values : List ℕ) → paired (unpaired values) ≡ values
 paired-of-unpaired [] = refl
@@ -63,7 +64,7 @@ paired-below (suc n) [] e below i h = absurd (omega arith)
 paired-below (suc n) (a ∷ []) e below i h = absurd (omega arith)
 paired-below (suc n) (a ∷ b ∷ digits) e below zero h = omega (arith, below 0 (omega arith), below 1 (omega arith))
 paired-below (suc n) (a ∷ b ∷ digits) e below (suc i) h =
-    paired-below n digits (omega arith) (λ j g. below (suc (suc j)) (suc-le-suc (suc-le-suc g))) i (le-of-suc-le-suc h)
+    paired-below n digits (omega arith) (below-drop 10 2 (a ∷ b ∷ digits) below) i (le-of-suc-le-suc h)
 
 pub unpaired-of-paired : (n : ℕ) (digits : List ℕ) → length digits ≡ 2 * n → Below 10 digits → unpaired (paired digits) ≡ digits
 unpaired-of-paired zero [] e below = refl
@@ -74,4 +75,4 @@ unpaired-of-paired (suc n) (a ∷ b ∷ digits) e below =
     let small = below 1 (omega arith) in
     let first : (10 * a + b) / 10 ≡ a = omega arith in
     let second : (10 * a + b) % 10 ≡ b = omega arith in
-    rw (first, second) (ap (λ (rest : List ℕ). a ∷ b ∷ rest) (unpaired-of-paired n digits (omega arith) (λ j g. below (suc (suc j)) (suc-le-suc (suc-le-suc g)))))
+    rw (first, second) (ap (λ (rest : List ℕ). a ∷ b ∷ rest) (unpaired-of-paired n digits (omega arith) (below-drop 10 2 (a ∷ b ∷ digits) below)))

@@ -1,10 +1,9 @@
 -- The rule of the scan, line by line: the count, the two ends, then what the pairs give.
 use Prim.Native.Nat.{ℕ}
-use mathlib.Core.Path.{_≡_, sym, ap, _∙_}
+use mathlib.Core.Path.{_≡_, refl, sym, _∙_}
 use mathlib.Core.Bool.{true, false}
-use mathlib.Core.List.{List, [], _++_, append-nil}
-use native.Mathlib.Omega.{arith}
-use lib.ListN.{length, drop, drop-of-length-le}
+use mathlib.Core.List.{List}
+use lib.ListN.{length, drop}
 use lib.Dec.{eqb}
 use borrow.Author.Tests.{eq-eqb, ne-eqb, eqb-true}
 use Rattle.laws.specs.Below.{Below}
@@ -14,7 +13,7 @@ use Rattle.refusal.specs.declared.Refusal.the-variants.{Count, Guard}
 use Rattle.refusal.specs.Outcome.{made, refused}
 use Rattle.refusal.specs.Fills.{FillsOwn}
 use Rattle.refusal.proofs.OutcomeLaws.{made-same, must-made, bind-made}
-use Rattle.refusal.proofs.FillsLaws.{made-of-answer}
+use Rattle.refusal.proofs.OwnLaws.{own-made}
 use Rattle.patterns.specs.Patterns.{characters}
 use Rattle.patterns.proofs.CharacterLaws.{drawn-of-characters}
 use Rattle.itf.specs.Tables.{pairs}
@@ -50,8 +49,6 @@ module _ (widths : List ℕ) where
 -- the seven values that a scan has laid in a list of seven places
 pub scanned-values : (widths before after : List ℕ) (n : ℕ) → FillsOwn (characters pairs 10 7 0 widths) before (Done n) after → length before ≡ 7 → (characters pairs 10 7 0 widths ≡ made after) × (length after ≡ 7) × Below (length pairs) after
 scanned-values widths before after n fills seven =
-    let m = made-of-answer (characters pairs 10 7 0 widths) n (fills .answer) in
-    let d = drawn-of-characters pairs 10 7 0 widths (m .0) (m .1) in
-    let over : drop (length (m .0)) before ≡ [] = drop-of-length-le before {i = length (m .0)} (omega arith) in
-    let is : after ≡ m .0 = fills .lent (m .0) (m .1) ∙ ap (λ (l : List ℕ). m .0 ++ l) over ∙ append-nil (m .0) in
-    rw is (m .1, d .0, d .2)
+    let is : characters pairs 10 7 0 widths ≡ made after = own-made _ before after (Done n) n refl fills (λ values e. drawn-of-characters pairs 10 7 0 widths values e .0 ∙ sym seven) in
+    let d = drawn-of-characters pairs 10 7 0 widths after is in
+    (is, d .0, d .2)

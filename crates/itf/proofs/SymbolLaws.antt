@@ -15,9 +15,9 @@ use Rattle.refusal.specs.Outcome.{made}
 use Rattle.patterns.specs.Patterns.{same, drawn, characters}
 use Rattle.patterns.proofs.PatternLaws.{same-true}
 use Rattle.patterns.proofs.CharacterLaws.{length-of-drawn, characters-of-drawn, drawn-of-characters}
+use Rattle.patterns.proofs.DrawnSums.{summing, sum-of-drawn}
 use Rattle.itf.specs.Tables.{pairs, start, stop}
 use Rattle.itf.specs.Itf14.{paired, symbol14, guarded14, scanned14}
-use Rattle.itf.proofs.DrawnSums.{summing, sum-of-drawn}
 use Rattle.itf.proofs.MatchLaws.{distinct-pairs}
 use Rattle.itf.proofs.PairLaws.{length-pairs, sized-pairs}
 use Rattle.itf.proofs.PairedLaws.{length-paired, paired-below, paired-of-unpaired, unpaired-of-paired, length-unpaired, unpaired-digits}

@@ -1,12 +1,12 @@
 -- A loop that copies one list over the front of another, an element a turn: after i turns it holds i elements of the first list, and
--- after them what it held, so each turn moves the seam by one.
+-- after them what it held, so each turn moves the seam by one. A part that is lent on and written whole moves it by its length.
 use Prim.Native.Nat.{ℕ, suc, _+_, _≤_, _<_}
-use mathlib.Core.Path.{_≡_, sym, ap₂, _∙_}
-use mathlib.Core.List.{List, _++_, map, append-nil}
+use mathlib.Core.Path.{_≡_, sym, ap, ap₂, _∙_}
+use mathlib.Core.List.{List, _++_, map, append-assoc, append-nil}
 use native.Mathlib.Numerals.{add-one}
 use native.Mathlib.Omega.{arith}
 use lib.ListN.{length, getD, set, take, drop, length-append, length-drop, length-map, drop-of-length-le, List·getD-map}
-use lib.Seq.{length-take-le, take-all, take-suc, drop-cons, append-snoc, set-at}
+use lib.Seq.{length-take-le, take-all, take-at, take-suc, drop-cons, append-snoc, set-at}
 
 module _ {A : Type 0} (xs ys : List A) where
   pub length-copied : (i : ℕ) → i ≤ length xs → i ≤ length ys → length (take i xs ++ drop i ys) ≡ length ys
@@ -31,3 +31,10 @@ module _ {A B : Type 0} (f : A → B) (xs : List A) (ys : List B) where
 
   pub mapped-whole : (i : ℕ) → length xs ≤ i → length ys ≤ i → take i (map f xs) ++ drop i ys ≡ map f xs
   mapped-whole i hx hy = copied-whole (map f xs) ys i (rw length-map hx) hy
+
+-- k elements written from place a on
+module _ {A : Type 0} (xs ys rest : List A) (a k : ℕ) (h : a ≤ length xs) (e : length ys ≡ k) where
+  pub take-part : take (a + k) (take a xs ++ (ys ++ rest)) ≡ take a xs ++ ys
+  take-part =
+      let front : length (take a xs ++ ys) ≡ a + k = length-append (take a xs) ys ∙ ap₂ (λ (m n : ℕ). m + n) (length-take-le a xs h) e in
+      ap (take (a + k)) (sym (append-assoc (take a xs) ys rest)) ∙ take-at (take a xs ++ ys) rest (a + k) front

@@ -7,7 +7,7 @@ use native.Mathlib.Nat.{suc-inj}
 use native.Mathlib.Omega.{arith}
 use lib.ListN.{length, getD, set}
 use Rattle.laws.specs.First.{firstNot}
-use Rattle.laws.proofs.FirstLaws.{first-of-nil, all-pass}
+use Rattle.laws.proofs.FirstLaws.{first-of-nil, all-pass, pass-append}
 use Rattle.laws.proofs.Exchanged.{exchanged, exchanged-sets}
 
 module _ {A : Type 0} (passes : A → Bool) where
@@ -25,10 +25,7 @@ module _ {A : Type 0} (passes : A → Bool) where
   together x xs p e = rw p (ap suc e)
 
   pub pass-last : (xs : List A) (x : A) → firstNot passes xs ≡ length xs → passes x ≡ true → firstNot passes (xs ++ (x ∷ [])) ≡ length (xs ++ (x ∷ []))
-  pass-last [] x e p = together x [] p (first-of-nil passes)
-  pass-last (y ∷ ys) x e p =
-      let parts = apart y ys e in
-      together y (ys ++ (x ∷ [])) (parts .0) (pass-last ys x (parts .1) p)
+  pass-last xs x e p = pass-append passes xs (x ∷ []) e (together x [] p (first-of-nil passes))
 
   pub pass-set : (xs : List A) (i : ℕ) (x : A) → firstNot passes xs ≡ length xs → passes x ≡ true → firstNot passes (set xs i x) ≡ length (set xs i x)
   pass-set [] i x e p = e

@@ -1,10 +1,10 @@
 -- Characters one after the other: a step of the scan, as a loop over it meets it; and scanning what was drawn, and drawing what was
 -- scanned, gives back what there was, a character at a time.
-use Prim.Native.Nat.{ℕ, zero, suc, _+_, _-_, _*_, _≤_, _<_, suc-le-suc}
+use Prim.Native.Nat.{ℕ, zero, suc, _+_, _-_, _*_, _<_}
 use mathlib.Core.Path.{_≡_, refl, sym, ap, ap₂, _∙_, subst}
 use mathlib.Core.Bool.{Bool, true, false}
 use mathlib.Core.List.{List, [], _∷_, _++_, append-assoc}
-use native.Mathlib.Nat.{add-zero, add-suc, suc-add, mul-suc, mul-zero, mul-one, mul-add, add-comm, sub-self, sub-zero, not-suc-le-zero, le-of-suc-le-suc}
+use native.Mathlib.Nat.{add-zero, add-suc, suc-add, mul-suc, mul-zero, mul-one, mul-add, add-comm, sub-self, sub-zero}
 use native.Mathlib.Numerals.{add-one}
 use native.Mathlib.Omega.{arith}
 use lib.ListN.{length, getD, take, drop, length-append}
@@ -12,6 +12,7 @@ use lib.Seq.{take-at, drop-at, drop-drop, take-add}
 use lib.Dec.{T, eqb, eqb→eq, ltb}
 use borrow.Author.Tests.{lt-ltb, le-ltb, ltb-true}
 use Rattle.laws.specs.Below.{Below}
+use Rattle.laws.proofs.BelowLaws.{below-of-nil, below-more, below-first, below-rest}
 use Rattle.laws.proofs.Tables.{every, at-entry}
 use Rattle.refusal.specs.declared.Refusal.the-variants.{Pattern}
 use Rattle.refusal.specs.Outcome.{Outcome, made, refused, _>>=_, _>>_, must}
@@ -27,6 +28,10 @@ prefixed done (refused f) = refused f
 pub prefixed-twice : (xs ys : List ℕ) (o : Outcome (List ℕ)) → prefixed xs (prefixed ys o) ≡ prefixed (xs ++ ys) o
 prefixed-twice xs ys (made values) = ap made (sym (append-assoc xs ys values))
 prefixed-twice xs ys (refused f) = refl
+
+pub prefixed-none : (o : Outcome (List ℕ)) → o ≡ prefixed [] o
+prefixed-none (made values) = refl
+prefixed-none (refused f) = refl
 
 bound : (v : ℕ) (o : Outcome (List ℕ)) → (o >>= (λ (values : List ℕ). made (v ∷ values))) ≡ prefixed (v ∷ []) o
 bound v (made values) = refl
@@ -70,18 +75,12 @@ module _ (patterns : List (List ℕ)) (size count place : ℕ) (widths : List �
 abbrev pub sized : ℕ → List (List ℕ) → Bool
 sized size patterns = every (λ (k : ℕ) (pattern : List ℕ). eqb (length pattern) size) patterns
 
-below-first : (n v : ℕ) (values : List ℕ) → Below n (v ∷ values) → v < n
-below-first n v values within = within 0 (omega arith)
-
-below-rest : (n v : ℕ) (values : List ℕ) → Below n (v ∷ values) → Below n values
-below-rest n v values within i h = within (suc i) (suc-le-suc h)
-
 module _ (patterns : List (List ℕ)) (size : ℕ) where
   pub drawn-of-characters : (count place : ℕ) (widths values : List ℕ) → characters patterns size count place widths ≡ made values → (length values ≡ count) × (drawn patterns values ≡ take (size * count) widths) × Below (length patterns) values
   unfolding characters drawn
   drawn-of-characters zero place widths values e =
       let none : [] ≡ values = made-same [] values e in
-      rw (← none, mul-zero) (refl, refl, λ i h. absurd (not-suc-le-zero h))
+      rw (← none, mul-zero) (refl, refl, below-of-nil (length patterns))
   drawn-of-characters (suc count) place widths values e =
       let v = valueIn patterns (take size widths) in
       let m = must-made (ltb v (length patterns)) (Pattern place) _ values e in
@@ -95,12 +94,8 @@ module _ (patterns : List (List ℕ)) (size : ℕ) where
         ap₂ (λ (row rest : List ℕ). row ++ rest) (pattern-at patterns (take size widths) below) (ih .1)
             ∙ sym (take-add size (size * count) widths)
             ∙ ap (λ (n : ℕ). take n widths) (add-comm size (size * count) ∙ sym (mul-suc size count)),
-        within v (b .0) below (ih .2),
+        below-more (length patterns) v (b .0) below (ih .2),
       )
-    where
-      within : (v : ℕ) (vs : List ℕ) → v < length patterns → Below (length patterns) vs → Below (length patterns) (v ∷ vs)
-      within v vs below rest zero h = below
-      within v vs below rest (suc i) h = rest i (le-of-suc-le-suc h)
 
 module _ (patterns : List (List ℕ)) (size : ℕ) (sizes : T (sized size patterns)) where
   pub length-at : (v : ℕ) → v < length patterns → length (getD patterns v []) ≡ size

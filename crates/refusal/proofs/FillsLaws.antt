@@ -14,6 +14,16 @@ use Rattle.refusal.specs.Outcome.{Outcome, made, refused}
 use Rattle.refusal.specs.Fills.{answered, answerOf, laid, Fills, laying}
 use Rattle.refusal.proofs.OutcomeLaws.{must-made, made-same}
 
+-- an answer that is a number
+pub refused-of-answered : (o : Outcome ℕ) (f : Refusal) → Refused f ≡ answered o → o ≡ refused f
+refused-of-answered (made n) f e = absurd (let z : _≡_ {A = ℕ} 0 1 = cc in omega arith)
+refused-of-answered (refused g) f e = cc
+
+pub made-of-answered : (o : Outcome ℕ) (n : ℕ) → Done n ≡ answered o → o ≡ made n
+made-of-answered (made m) n e = cc
+made-of-answered (refused g) n e = absurd (let z : _≡_ {A = ℕ} 0 1 = cc in omega arith)
+
+-- and one that is the count of a list
 module _ {A : Type 0} where
   pub refused-of-answer : (o : Outcome (List A)) (f : Refusal) → Refused f ≡ answerOf o → o ≡ refused f
   refused-of-answer (made xs) f e = absurd (let z : _≡_ {A = ℕ} 0 1 = cc in omega arith)

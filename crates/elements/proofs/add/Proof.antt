@@ -9,11 +9,11 @@ use borrow.Author.Needs.{needs}
 use Rattle.refusal.specs.declared.Refusal.the-variants.{Count}
 use Rattle.refusal.specs.Outcome.{made}
 use Rattle.refusal.specs.Fills.{laying}
-use Rattle.refusal.proofs.FillsLaws.{fills-refused, fills-passed, fills-same}
+use Rattle.refusal.proofs.FillsLaws.{refused-of-answered, made-of-answered, fills-refused, fills-passed, fills-same}
 use Rattle.elements.specs.Identifiers.{spelled}
 use Rattle.elements.specs.Adding.{adds}
 use Rattle.elements.specs.Calls.{judged}
-use Rattle.elements.proofs.AddLaws.{refused-of-answered, made-of-answered, withString, judged-bounds, adds-over, adds-beyond, adds-refused, adds-laying}
+use Rattle.elements.proofs.AddLaws.{withString, judged-bounds, adds-over, adds-beyond, adds-refused, adds-laying}
 use Rattle.elements.proofs.add.Statement.{statement}
 use Rattle.elements.proofs.add.Tie as tie
 

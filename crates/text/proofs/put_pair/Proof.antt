@@ -1,8 +1,7 @@
 -- `text::put_pair` meets its contract: the first number and the space stand at the front, and the second number after them.
 use mathlib.Core.Path.{_∙_}
 use native.Mathlib.Omega.{arith}
-use lib.ListN.{length, length-set, length-drop, length-take}
-use borrow.Rule.Slice.PartMut.{same-len-mid}
+use lib.ListN.{length-set, length-drop, length-take}
 use borrow.Author.Needs.{needs}
 use Rattle.text.proofs.PutsLaws.{puts-more, puts-then}
 use Rattle.text.proofs.put_pair.Statement.{statement}
@@ -35,7 +34,7 @@ add-result c = search needs
 same-length : tie.Need-same-length
 same-length c =
     let first = c .before .before .before .before .before .before .put-number in
-    c .before .out2 .given .1 ∙ length-set (first .last .1 .0) (first .result) 32 ∙ first .kept .1 .0
+    c .before .out2 .given .1 ∙ length-set (first .last .1 .0) (first .result) _ ∙ first .kept .1 .0
 
 returns : tie.Need-returns
 returns c =

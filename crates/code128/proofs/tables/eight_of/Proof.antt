@@ -1,10 +1,11 @@
 -- `code128::tables::eight_of` meets its contract: each arm is eight candidates, packed, and what no arm names lies beyond them.
 use mathlib.Core.Path.{sym}
+use lib.ListN.{List·getD-eq-default}
 use Rattle.laws.specs.First.{firstNot}
 use Rattle.laws.specs.Packed.{packed}
 use Rattle.code128.specs.Characters.{patterns}
 use Rattle.code128.specs.Matching.{eights}
-use Rattle.code128.proofs.Arms.{beyond, getD-beyond}
+use Rattle.code128.proofs.Arms.{beyond}
 use Rattle.code128.proofs.tables.eight_of.Statement.{statement}
 use Rattle.code128.proofs.tables.eight_of.Tie as tie
 
@@ -210,7 +211,7 @@ returns-50 c = rw (c .match .keys50)
 
 returns-51 : tie.Need-returns-51
 unfolding eights patterns packed firstNot
-returns-51 c = sym (getD-beyond eights (c .before .args .eighth) 0 (beyond (c .before .args .eighth) 50 (c .match .rest)))
+returns-51 c = sym (List·getD-eq-default eights 0 (beyond (c .before .args .eighth) 50 (c .match .rest)))
 
 pub eight-of-spec : {M : Type 1} → statement M
 eight-of-spec =

@@ -1,9 +1,10 @@
 -- `code128::tables::packed_of` meets its contract: each arm is a row of the table, packed, and what no arm names lies beyond it.
 use mathlib.Core.Path.{sym, ap}
 use mathlib.Core.List.{[]}
+use lib.ListN.{List·getD-eq-default}
 use Rattle.laws.specs.Packed.{packed}
 use Rattle.code128.specs.Characters.{patterns}
-use Rattle.code128.proofs.Arms.{beyond, getD-beyond}
+use Rattle.code128.proofs.Arms.{beyond}
 use Rattle.code128.proofs.tables.packed_of.Statement.{statement}
 use Rattle.code128.proofs.tables.packed_of.Tie as tie
 
@@ -433,7 +434,7 @@ returns-106 c = rw (c .match .keys106)
 
 returns-107 : tie.Need-returns-107
 unfolding patterns packed
-returns-107 c = sym (ap packed (getD-beyond patterns (c .before .args .value) [] (beyond (c .before .args .value) 106 (c .match .rest))))
+returns-107 c = sym (ap packed (List·getD-eq-default patterns [] (beyond (c .before .args .value) 106 (c .match .rest))))
 
 pub packed-of-spec : {M : Type 1} → statement M
 packed-of-spec =

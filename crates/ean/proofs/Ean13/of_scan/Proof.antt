@@ -4,7 +4,7 @@ use mathlib.Core.Path.{_≡_, ap₂}
 use mathlib.Core.List.{List, _∷_, _++_, map}
 use lib.ListN.{length}
 use borrow.Author.Needs.{needs}
-use Rattle.ean.proofs.Listed.{listed-whole}
+use Rattle.laws.proofs.Listed.{listed-whole}
 use Rattle.ean.proofs.Ean13.of_scan.Statement.{statement}
 use Rattle.ean.proofs.Ean13.of_scan.Tie as tie
 

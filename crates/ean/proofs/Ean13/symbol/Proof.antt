@@ -8,7 +8,7 @@ use lib.Seq.{take-all}
 use Rattle.patterns.specs.Patterns.{drawn}
 use Rattle.ean.specs.Tables.{setA, setB, setC, parityRows, guard, centre}
 use Rattle.ean.specs.Ean13.{leftValues, symbol13}
-use Rattle.ean.proofs.BelowLaws.{below-take, below-drop}
+use Rattle.laws.proofs.BelowLaws.{below-take, below-drop}
 use Rattle.ean.proofs.LeftHalf.{length-of-left, left-digits-below, six-values, values-below}
 use borrow.Author.Needs.{needs}
 use Rattle.ean.proofs.Ean13.symbol.Statement.{statement}

@@ -8,7 +8,7 @@ use lib.Seq.{take-all}
 use Rattle.patterns.specs.Patterns.{drawn}
 use Rattle.ean.specs.Tables.{setA, setC, guard, centre}
 use Rattle.ean.specs.Ean8.{symbol8}
-use Rattle.ean.proofs.BelowLaws.{below-take, below-drop}
+use Rattle.laws.proofs.BelowLaws.{below-take, below-drop}
 use borrow.Author.Needs.{needs}
 use Rattle.ean.proofs.Ean8.symbol.Statement.{statement}
 use Rattle.ean.proofs.Ean8.symbol.Tie as tie

@@ -2,9 +2,9 @@
 use mathlib.Core.Path.{refl}
 use native.Mathlib.Omega.{arith}
 use lib.ListN.{length, length-take}
+use Rattle.laws.proofs.Parts.{last-part}
 use Rattle.patterns.specs.Patterns.{drawn}
 use Rattle.ean.specs.Halves.{patternsOf}
-use Rattle.ean.proofs.Parts.{last-part}
 use borrow.Author.Needs.{needs}
 use Rattle.ean.proofs.draw.guarded_half.Statement.{statement}
 use Rattle.ean.proofs.draw.guarded_half.Tie as tie

@@ -6,9 +6,9 @@ use native.Mathlib.Omega.{arith}
 use borrow.Author.Needs.{needs}
 use lib.ListN.{length, getD, take, drop, length-append, length-take, length-drop, drop-of-length-le}
 use lib.Seq.{take-all}
+use Rattle.laws.proofs.Parts.{next-part}
 use Rattle.patterns.specs.Patterns.{drawn}
 use Rattle.ean.specs.Halves.{patternsOf}
-use Rattle.ean.proofs.Parts.{next-part}
 use Rattle.ean.proofs.Drawing.{four-widths, drawn-of-nil, drawn-more}
 use Rattle.ean.proofs.draw.half.Statement.{statement}
 use Rattle.ean.proofs.draw.half.Tie as tie

@@ -1,17 +1,14 @@
 -- `ean::scan::half` meets its contract: after i turns the scan's outcome is the i values that stand, in front of what is left to scan.
 use Prim.Native.Nat.{ℕ, _+_, _-_, _*_, _≤_}
-use mathlib.Core.Path.{_≡_, refl, sym, ap, ap₂, _∙_}
-use mathlib.Core.List.{List, [], _∷_, append-nil}
-use native.Mathlib.Numerals.{add-one}
+use mathlib.Core.Path.{_≡_, refl, sym, ap, _∙_}
 use native.Mathlib.Omega.{arith}
 use borrow.Author.Needs.{needs}
 use lib.ListN.{length, take, drop, length-set, length-take, length-drop}
-use lib.Seq.{take-all, take-suc-set}
-use Rattle.refusal.specs.Outcome.{made}
-use Rattle.patterns.specs.Patterns.{valueIn, characters}
-use Rattle.patterns.proofs.CharacterLaws.{prefixed, prefixed-twice, left, left-at-first, left-at-last, left-more, left-stop}
+use Rattle.refusal.proofs.OwnLaws.{own-filled, own-refused}
+use Rattle.patterns.specs.Patterns.{valueIn}
+use Rattle.patterns.proofs.ScanLaws.{ScannedTo, scan-begins, scan-ends, scan-stops, scan-goes}
 use Rattle.ean.specs.Halves.{patternsOf, matchIn}
-use Rattle.ean.proofs.Scanning.{match-value, match-nothing, prefixed-none, own-refused, own-whole}
+use Rattle.ean.proofs.Scanning.{match-value, match-nothing}
 use Rattle.ean.proofs.scan.half.Statement.{statement}
 use Rattle.ean.proofs.scan.half.Tie as tie
 
@@ -19,7 +16,7 @@ abbrev Inv-loop : tie.InvT-loop
 Inv-loop sets place widths values₀ i₀ values i =
     (i ≤ length values₀)
     × (length values ≡ length values₀)
-    × (characters (patternsOf sets) 4 (length values₀) place widths ≡ prefixed (take i values) (left (patternsOf sets) 4 (length values₀) place widths i))
+    × ScannedTo (patternsOf sets) 4 (length values₀) place widths i values
 
 abbrev μ-loop : tie.MeasureT-loop
 μ-loop sets place widths values₀ i₀ values i = length values₀ - i
@@ -27,10 +24,8 @@ abbrev μ-loop : tie.MeasureT-loop
 loop-holds : tie.Need-loop-holds Inv-loop μ-loop
 loop-holds c =
     let start = c .before .before in
-    let patterns = patternsOf (start .args .sets) in
-    let widths = start .args .widths .now in
-    let count = length (start .args .values .now) in
-    (omega arith, refl, left-at-first patterns 4 count (start .args .place) widths ∙ sym (prefixed-none (left patterns 4 count (start .args .place) widths 0)))
+    let values = start .args .values .now in
+    (omega arith, refl, scan-begins (patternsOf (start .args .sets)) 4 (length values) (start .args .place) (start .args .widths .now) values)
 
 mul-at : tie.Need-mul-at Inv-loop μ-loop
 mul-at c = omega arith
@@ -74,8 +69,7 @@ returns c =
     let none : valueIn patterns (take 4 (drop (4 * i) widths)) ≡ length patterns =
     match-nothing patterns _
     (sym (c .enum-told .given .1) ∙ c .before .before .value-of .ensures ∙ ap (λ (n : ℕ). matchIn patterns (take n (drop (4 * i) widths))) size) in
-    own-refused _ _ _ _
-    (at .loop .inv .2 ∙ ap (prefixed (take i (at .loop .values))) (left-stop patterns 4 count (start .args .place) widths i (omega arith) none))
+    own-refused _ _ _ _ (scan-stops patterns 4 count (start .args .place) widths (at .loop .values) i (omega arith) (at .loop .inv .2) none)
 
 slice-write-values : tie.Need-slice-write-values Inv-loop μ-loop
 slice-write-values c = omega arith
@@ -101,11 +95,7 @@ loop-again c =
     (sym (c .before .value .given .1) ∙ c .before .before .before .value-of .ensures ∙ ap (λ (n : ℕ). matchIn patterns (take n (drop (4 * i) widths))) size) in (
       omega arith,
       simp length-set (omega arith),
-      at .loop .inv .2
-          ∙ ap (prefixed (take i (at .loop .values))) (left-more patterns 4 count (start .args .place) widths i v (omega arith) (found .0) (found .1))
-          ∙ prefixed-twice (take i (at .loop .values)) (v ∷ []) (left patterns 4 count (start .args .place) widths (i + 1))
-          ∙ ap (λ (done : List ℕ). prefixed done (left patterns 4 count (start .args .place) widths (i + 1)))
-          (sym (rw add-one (take-suc-set (at .loop .values) i v (omega arith)))),
+      scan-goes patterns 4 count (start .args .place) widths (at .loop .values) i (omega arith) (at .loop .inv .2) v (omega arith) (found .0) (found .1),
     )
 
 same-length-2 : tie.Need-same-length-2 Inv-loop μ-loop
@@ -115,18 +105,13 @@ returns-2 : tie.Need-returns-2 Inv-loop μ-loop
 returns-2 c =
     let at = c .before in
     let start = at .before .before .before in
-    let patterns = patternsOf (start .args .sets) in
-    let widths = start .args .widths .now in
     let values = at .loop .values in
     let count = length (start .args .values .now) in
-    let i = at .loop .i in
-    let whole : i ≡ count = omega arith in
-    let long : length values ≡ i = omega arith in
-    rw (← long)
-    (own-whole _ _ values (omega arith)
-    (at .loop .inv .2
-    ∙ ap₂ prefixed (take-all i values (omega arith)) (ap (left patterns 4 count (start .args .place) widths) whole ∙ left-at-last patterns 4 count (start .args .place) widths)
-    ∙ ap made (append-nil values)))
+    let over : at .loop .i ≡ count = omega arith in
+    rw over
+    (own-filled _ _ values count
+    (scan-ends (patternsOf (start .args .sets)) 4 count (start .args .place) (start .args .widths .now) values (omega arith) (rw over at (at .loop .inv .2)))
+    (omega arith) refl)
 
 pub half-spec : {M : Type 1} → statement M
 half-spec =

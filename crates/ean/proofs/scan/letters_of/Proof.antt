@@ -3,7 +3,7 @@ use Prim.Native.Nat.{_/_}
 use mathlib.Core.Path.{_≡_, ap}
 use mathlib.Core.List.{map}
 use lib.ListN.{length}
-use Rattle.ean.proofs.Listed.{listed-whole}
+use Rattle.laws.proofs.Listed.{listed-whole}
 use borrow.Author.Needs.{needs}
 use Rattle.ean.proofs.scan.letters_of.Statement.{statement}
 use Rattle.ean.proofs.scan.letters_of.Tie as tie

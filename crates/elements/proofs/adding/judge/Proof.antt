@@ -10,7 +10,7 @@ use borrow.Author.Tests.{not-true, not-false}
 use lib.ListN.{length}
 use Rattle.refusal.specs.Outcome.{made}
 use Rattle.refusal.specs.Fills.{answered}
-use Rattle.refusal.proofs.FillsLaws.{refused-of-answer, made-of-answer}
+use Rattle.refusal.proofs.FillsLaws.{refused-of-answered, made-of-answered, refused-of-answer, made-of-answer}
 use Rattle.elements.specs.declared.Element.{Element}
 use Rattle.elements.specs.declared.identifiers.Kind.{Kind}
 use Rattle.elements.specs.Identifiers.{kindOf, spelled}
@@ -20,7 +20,7 @@ use Rattle.elements.specs.Calls.{unusedIn}
 use Rattle.elements.proofs.DataLaws.{sized-if-listed}
 use Rattle.elements.proofs.DecisionLaws.{spelling-of}
 use Rattle.elements.proofs.ListedLaws.{listed-if-kind}
-use Rattle.elements.proofs.AddLaws.{refused-of-answered, made-of-answered, unused-short, kind-of-row, no-kind-of-row, judged-old, judged-unlisted, judged-wrong, judged-used, judged-over, judged-made}
+use Rattle.elements.proofs.AddLaws.{unused-short, kind-of-row, no-kind-of-row, judged-old, judged-unlisted, judged-wrong, judged-used, judged-over, judged-made}
 use Rattle.elements.proofs.adding.judge.Statement.{statement}
 use Rattle.elements.proofs.adding.judge.Tie as tie
 

@@ -1,14 +1,14 @@
 -- `elements::identifiers::digits_after` meets its contract: each `return` is reached by the pairs of one run.
 use Prim.Native.Nat.{ℕ}
 use mathlib.Core.Path.{_≡_, sym, ap, _∙_}
-use mathlib.Core.Bool.{Bool, true, false, _||_}
+use mathlib.Core.Bool.{Bool, true, false, _||_, or-false}
 use native.Mathlib.Omega.{arith}
 use lib.Dec.{eqb}
 use borrow.Author.Tests.{eqb-true, ne-eqb}
 use Rattle.laws.specs.First.{firstNot}
 use Rattle.elements.specs.Characters.{placeIn}
 use Rattle.elements.specs.Calls.{digitsAfter}
-use Rattle.elements.proofs.AmongLaws.{in-run, or-false}
+use Rattle.elements.proofs.AmongLaws.{in-run}
 use Rattle.elements.proofs.identifiers.digits_after.Statement.{statement}
 use Rattle.elements.proofs.identifiers.digits_after.Tie as tie
 

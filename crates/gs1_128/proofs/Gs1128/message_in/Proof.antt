@@ -14,12 +14,11 @@ use Rattle.refusal.specs.declared.Answer.the-variants.{Refused}
 use Rattle.refusal.specs.declared.Refusal.the-variants.{Count}
 use Rattle.refusal.specs.Outcome.{made}
 use Rattle.refusal.specs.Fills.{FillsOwn}
-use Rattle.refusal.proofs.FillsLaws.{refused-of-answer, made-of-answer}
-use Rattle.elements.proofs.AddLaws.{refused-of-answered, made-of-answered}
+use Rattle.refusal.proofs.FillsLaws.{refused-of-answered, made-of-answered, refused-of-answer, made-of-answer}
+use Rattle.refusal.proofs.OwnLaws.{own-refused, own-passed, own-same, own-front}
 use Rattle.gs1_128.specs.Symbol.{permitted}
 use Rattle.gs1_128.specs.Stages.{startIn, textIn}
 use Rattle.gs1_128.proofs.CountLaws.{Counted, count-permitted}
-use Rattle.gs1_128.proofs.OwnLaws.{own-refused, own-passed, own-same, own-front}
 use Rattle.gs1_128.proofs.StageLaws.{start-below, message-count, message-guard, message-untold, message-wrong, message-right}
 use Rattle.gs1_128.proofs.Gs1128.message_in.Statement.{statement}
 use Rattle.gs1_128.proofs.Gs1128.message_in.Tie as tie

@@ -8,8 +8,8 @@ use borrow.Author.Needs.{needs}
 use Rattle.refusal.specs.declared.Answer.the-variants.{Refused}
 use Rattle.refusal.specs.Outcome.{made}
 use Rattle.refusal.proofs.FillsLaws.{refused-of-answer, fills-passed, fills-same}
+use Rattle.refusal.proofs.OwnLaws.{own-front}
 use Rattle.gs1_128.specs.Calls.{messageIn}
-use Rattle.gs1_128.proofs.OwnLaws.{own-front}
 use Rattle.gs1_128.proofs.StageLaws.{reads-refused, reads-laying}
 use Rattle.gs1_128.proofs.Gs1128.read_in.Statement.{statement}
 use Rattle.gs1_128.proofs.Gs1128.read_in.Tie as tie

@@ -12,11 +12,12 @@ use Rattle.refusal.specs.Fills.{laying}
 use Rattle.refusal.proofs.FillsLaws.{refused-of-answer, made-of-answer, fills-passed, fills-same}
 use Rattle.elements.specs.declared.Element.{Element}
 use Rattle.elements.specs.Strings.{tested}
+use Rattle.elements.proofs.FromRule.{Accepted, tested-made}
 use Rattle.patterns.specs.Patterns.{drawn}
 use Rattle.code128.specs.Characters.{patterns, stop}
 use Rattle.code128.specs.Best.{bestSpelling}
 use Rattle.gs1_128.specs.Symbol.{checked}
-use Rattle.gs1_128.proofs.WrittenLaws.{Sound, sound-if-tested, write-refused, write-made, characters-have-patterns, characters-are-few, symbol-of-best}
+use Rattle.gs1_128.proofs.WrittenLaws.{write-refused, write-made, characters-have-patterns, characters-are-few, symbol-of-best}
 use Rattle.gs1_128.proofs.Gs1128.write.Statement.{statement}
 use Rattle.gs1_128.proofs.Gs1128.write.Tie as tie
 
@@ -46,14 +47,14 @@ module _ (c : tie.After-enum-told) where
   passed : (strings : List Element) × (tested message ≡ made strings) × (length strings ≡ c .enum-told .given .0 .0)
   passed = made-of-answer (tested message) (c .enum-told .given .0 .0) (sym (c .enum-told .given .1) ∙ c .before .before .test .ensures)
 
-  sound : Sound message
-  sound = sound-if-tested message (passed .0) (passed .1)
+  accepted : Accepted message (passed .0)
+  accepted = tested-made message (passed .0) (passed .1)
 
 slice-aggregate-characters-of : tie.Need-slice-aggregate-characters-of
 slice-aggregate-characters-of c = search needs
 
 characters-of-requires : tie.Need-characters-of-requires
-characters-of-requires c κs = let s = sound (c .before) in (s .most, (s .plain, refl))
+characters-of-requires c κs = let a = accepted (c .before) in (a .most, (a .bytes, refl))
 
 -- the characters at the front of the call's own list
 front : (c : tie.After-characters-of) → take (c .characters-of .result - 0) (c .characters-of .last .1 .0) ≡ checked (bestSpelling (message (c .before .before)))
@@ -71,13 +72,13 @@ part-draw-end : tie.Need-part-draw-end
 part-draw-end c =
     let made-them = c .before .before in
     let told = made-them .before .before in
-    omega (arith, made-them .characters-of .ensures .0, made-them .characters-of .kept .1 .0, characters-are-few (message told) (sound told))
+    omega (arith, made-them .characters-of .ensures .0, made-them .characters-of .kept .1 .0, characters-are-few (message told) (accepted told))
 
 draw-requires : tie.Need-draw-requires
 draw-requires c κs =
     let made-them = c .before .before .before .before in
     let told = made-them .before .before in
-    rw (front made-them) (characters-are-few (message told) (sound told), characters-have-patterns (message told) (sound told))
+    rw (front made-them) (characters-are-few (message told) (accepted told), characters-have-patterns (message told) (accepted told))
 
 same-length : tie.Need-same-length
 same-length c = search needs
@@ -91,7 +92,7 @@ returns-2 c =
     fills-same _ (laying (drawn patterns own ++ stop) room) _ _ _
     (write-made (message told) room (passed told .0) (passed told .1)
     ∙ ap (λ (widths : List ℕ). laying widths room)
-    (symbol-of-best (message told) (sound told) ∙ ap (λ (characters : List ℕ). drawn patterns characters ++ stop) (sym (front made-them))))
+    (symbol-of-best (message told) (accepted told) ∙ ap (λ (characters : List ℕ). drawn patterns characters ++ stop) (sym (front made-them))))
     (c .before .before .draw .ensures)
 
 pub write-spec : {M : Type 1} → statement M

@@ -6,7 +6,8 @@ use mathlib.Core.List.{List, [], _++_, append-nil, append-assoc}
 use native.Mathlib.Numerals.{add-one}
 use native.Mathlib.Omega.{arith}
 use lib.ListN.{length, getD, take, drop, drop-of-length-le, length-append, length-take, length-drop}
-use lib.Seq.{drop-cons, length-take-le, take-at, take-all}
+use lib.Seq.{drop-cons, take-all}
+use Rattle.laws.proofs.Copying.{take-part}
 use Rattle.patterns.specs.Patterns.{drawn}
 use Rattle.code128.specs.Characters.{patterns}
 use Rattle.gs1_128.proofs.drawing.draw_characters.Statement.{statement}
@@ -29,9 +30,8 @@ module _ (characters to pattern : List ℕ) (i k : ℕ) (h : i < length characte
       → take (6 * (i + 1)) after ++ drawn patterns (drop (i + 1) characters) ≡ drawn patterns characters
   drawn-more is so =
       let rest = drawn patterns (drop (i + 1) characters) in
-      let front : length (take (6 * i) to ++ pattern) ≡ 6 * (i + 1) = simp (length-append, length-take) (omega arith) in
-      let seam : take (6 * (i + 1)) after ≡ take (6 * i) to ++ pattern = ap (take (6 * (i + 1))) (sym (append-assoc (take (6 * i) to) pattern (drop k (drop (6 * i) to)))) ∙ take-at (take (6 * i) to ++ pattern) (drop k (drop (6 * i) to)) (6 * (i + 1)) front in
-      rw seam
+      let more : 6 * (i + 1) ≡ 6 * i + 6 = omega arith in
+      rw (more, take-part to pattern (drop k (drop (6 * i) to)) (6 * i) 6 (omega arith) ep)
       (append-assoc (take (6 * i) to) pattern rest
       ∙ ap (λ (p : List ℕ). take (6 * i) to ++ (p ++ rest)) is
       ∙ ap (λ (l : List ℕ). take (6 * i) to ++ l) (sym drawn-next)

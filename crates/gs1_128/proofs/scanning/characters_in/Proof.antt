@@ -9,11 +9,11 @@ use lib.ListN.{length, take, drop, length-take, length-drop, length-set}
 use lib.Seq.{take-take, drop-drop}
 use Rattle.refusal.specs.declared.Refusal.the-variants.{Pattern}
 use Rattle.refusal.specs.Outcome.{refused}
+use Rattle.refusal.proofs.OwnLaws.{own-filled, own-refused}
 use Rattle.patterns.specs.Patterns.{valueIn}
+use Rattle.patterns.proofs.ScanLaws.{ScannedTo, scan-begins, scan-ends, scan-stops, scan-goes}
 use Rattle.gs1_128.specs.Symbol.{allowed}
 use Rattle.gs1_128.proofs.TableLaws.{allowed-are, allowed-matched, allowed-unmatched}
-use Rattle.gs1_128.proofs.OwnLaws.{own-filled, own-refused}
-use Rattle.gs1_128.proofs.ScanLaws.{ScannedTo, scan-begins, scan-ends, scan-stops, scan-goes}
 use Rattle.gs1_128.proofs.scanning.characters_in.Statement.{statement}
 use Rattle.gs1_128.proofs.scanning.characters_in.Tie as tie
 

@@ -11,11 +11,11 @@ use Rattle.refusal.specs.declared.Answer.the-variants.{Refused}
 use Rattle.refusal.specs.declared.Refusal.the-variants.{CheckCharacter, FirstCharacter}
 use Rattle.refusal.specs.Outcome.{made}
 use Rattle.refusal.proofs.FillsLaws.{refused-of-answer}
+use Rattle.refusal.proofs.OwnLaws.{own-refused, own-passed, own-same, own-made}
 use Rattle.patterns.specs.Patterns.{characters}
 use Rattle.patterns.proofs.CharacterLaws.{drawn-of-characters}
 use Rattle.code128.specs.Check.{checkOf}
 use Rattle.gs1_128.specs.Symbol.{countOf, allowed}
-use Rattle.gs1_128.proofs.OwnLaws.{own-refused, own-passed, own-same, own-made}
 use Rattle.gs1_128.proofs.StageLaws.{values-refused, values-unchecked, values-unmarked, values-right}
 use Rattle.gs1_128.proofs.scanning.values_in.Statement.{statement}
 use Rattle.gs1_128.proofs.scanning.values_in.Tie as tie

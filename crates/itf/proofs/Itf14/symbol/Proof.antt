@@ -6,11 +6,11 @@ use mathlib.Core.List.{List, [], _++_}
 use native.Mathlib.Omega.{arith}
 use lib.ListN.{length, take, drop, drop-of-length-le, length-append, length-take, length-drop}
 use borrow.Author.Needs.{needs}
+use Rattle.laws.proofs.Copying.{take-part}
 use Rattle.refusal.specs.Fills.{laid, laying}
 use Rattle.refusal.proofs.FillsLaws.{laying-made}
 use Rattle.itf.specs.Tables.{stop}
 use Rattle.itf.specs.Itf14.{symbol14}
-use Rattle.itf.proofs.Copied.{take-part}
 use Rattle.itf.proofs.Itf14.symbol.Statement.{statement}
 use Rattle.itf.proofs.Itf14.symbol.Tie as tie
 

@@ -5,10 +5,10 @@ use mathlib.Core.List.{List, [], _++_, append-nil, append-assoc}
 use native.Mathlib.Omega.{arith}
 use lib.ListN.{length, getD, take, drop, drop-of-length-le, length-append, length-take, length-drop}
 use lib.Seq.{take-all}
+use Rattle.laws.proofs.Copying.{take-part}
 use Rattle.patterns.specs.Patterns.{drawn}
 use Rattle.itf.specs.Tables.{pairs}
 use Rattle.itf.specs.Itf14.{paired}
-use Rattle.itf.proofs.Copied.{take-part}
 use Rattle.itf.proofs.PairedLaws.{drawn-more}
 use Rattle.itf.proofs.drawing.draw_pairs.Statement.{statement}
 use Rattle.itf.proofs.drawing.draw_pairs.Tie as tie

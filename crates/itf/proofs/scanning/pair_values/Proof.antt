@@ -4,28 +4,26 @@ use Prim.Native.Nat.{_+_, _-_, _*_, _≤_, _<_}
 use mathlib.Core.Path.{_≡_, sym, _∙_}
 use borrow.Author.Needs.{needs}
 use native.Mathlib.Omega.{arith}
-use lib.ListN.{length, take, length-take, length-drop, length-set}
+use lib.ListN.{length, length-take, length-drop, length-set}
 use Rattle.refusal.specs.declared.Refusal.the-variants.{Pattern}
-use Rattle.patterns.specs.Patterns.{characters}
-use Rattle.patterns.proofs.CharacterLaws.{prefixed, left}
+use Rattle.refusal.proofs.OwnLaws.{own-filled, own-refused}
+use Rattle.patterns.proofs.ScanLaws.{ScannedTo, scan-begins, scan-ends}
 use Rattle.itf.specs.Tables.{pairs}
 use Rattle.itf.proofs.PairLaws.{length-pairs}
 use Rattle.itf.proofs.MatchLaws.{value-of-match}
-use Rattle.itf.proofs.ScanLaws.{own-filled, own-refused, scan-begins, scan-ends, scan-stops, scan-goes}
+use Rattle.itf.proofs.ScanLaws.{scan-stops, scan-goes}
 use Rattle.itf.proofs.scanning.pair_values.Statement.{statement}
 use Rattle.itf.proofs.scanning.pair_values.Tie as tie
 
 abbrev Inv-loop : tie.InvT-loop
 Inv-loop widths values₀ i₀ values i =
-    (i ≤ 7)
-    × (length values ≡ 7)
-    × (characters pairs 10 7 0 widths ≡ prefixed (take i values) (left pairs 10 7 0 widths i))
+    (i ≤ 7) × (length values ≡ 7) × ScannedTo pairs 10 7 0 widths i values
 
 abbrev μ-loop : tie.MeasureT-loop
 μ-loop widths values₀ i₀ values i = 7 - i
 
 loop-holds : tie.Need-loop-holds Inv-loop μ-loop
-loop-holds c = (omega arith, omega arith, scan-begins (c .before .before .args .widths .now) (c .before .before .args .values .now))
+loop-holds c = (omega arith, omega arith, scan-begins pairs 10 7 0 (c .before .before .args .widths .now) (c .before .before .args .values .now))
 
 mul-at : tie.Need-mul-at Inv-loop μ-loop
 mul-at c = omega arith
@@ -97,7 +95,7 @@ returns-2 c =
     let args = c .before .before .before .before .args in
     let loop = c .before .loop in
     let over : loop .i ≡ 7 = omega arith in
-    rw over (own-filled _ _ (loop .values) 7 (scan-ends (args .widths .now) (loop .values) (rw over at (loop .inv .2)) (omega arith)) (omega arith) (omega arith))
+    rw over (own-filled _ _ (loop .values) 7 (scan-ends pairs 10 7 0 (args .widths .now) (loop .values) (omega arith) (rw over at (loop .inv .2))) (omega arith) (omega arith))
 
 pub pair-values-spec : {M : Type 1} → statement M
 pair-values-spec =

@@ -1,6 +1,6 @@
 -- `text::typed::message_in` meets its contract: after i turns the front holds i bytes of the message and then what it held, and the loop
 -- ends where the shorter of the two does.
-use Prim.Native.Nat.{_-_, _≤_, min}
+use Prim.Native.Nat.{_-_, _≤_}
 use mathlib.Core.Path.{_≡_, refl}
 use mathlib.Core.List.{_++_}
 use native.Mathlib.Omega.{arith}

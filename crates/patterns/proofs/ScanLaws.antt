@@ -1,6 +1,6 @@
 -- A scan met by a loop that goes up, a character a turn: the values found so far, before what is left of the scan, are the rule's.
 use Prim.Native.Nat.{ℕ, _+_, _*_, _<_}
-use mathlib.Core.Path.{_≡_, refl, sym, ap, _∙_}
+use mathlib.Core.Path.{_≡_, sym, ap, _∙_}
 use mathlib.Core.List.{List, [], _∷_, append-nil}
 use native.Mathlib.Numerals.{add-one}
 use native.Mathlib.Omega.{arith}
@@ -8,12 +8,8 @@ use lib.ListN.{length, set, take, drop}
 use lib.Seq.{take-all, take-suc-set}
 use Rattle.refusal.specs.declared.Refusal.the-variants.{Pattern}
 use Rattle.refusal.specs.Outcome.{Outcome, made, refused}
 use Rattle.patterns.specs.Patterns.{valueIn, characters}
-use Rattle.patterns.proofs.CharacterLaws.{prefixed, prefixed-twice, left, left-at-first, left-at-last, left-more, left-stop}
-
-prefixed-none : (o : Outcome (List ℕ)) → o ≡ prefixed [] o
-prefixed-none (made values) = refl
-prefixed-none (refused f) = refl
+use Rattle.patterns.proofs.CharacterLaws.{prefixed, prefixed-twice, prefixed-none, left, left-at-first, left-at-last, left-more, left-stop}
 
 module _ (patterns : List (List ℕ)) (size count place : ℕ) (widths : List ℕ) where
   abbrev rule : Outcome (List ℕ)
