@@ -6,15 +6,16 @@ use mathlib.Core.Bool.{Bool, true, false, cond}
 use mathlib.Core.List.{List, [], _∷_}
 use native.Mathlib.Numerals.{add-one}
 use native.Mathlib.Omega.{arith}
-use lib.ListN.{length, getD, drop, length-drop, drop-of-length-le}
+use lib.ListN.{length, getD, set, drop, length-drop, drop-of-length-le}
 use lib.Seq.{drop-cons, drop-drop, getD-drop}
 use lib.Dec.{ltb}
 use borrow.Author.Tests.{lt-ltb, le-ltb}
+use Rattle.laws.proofs.Copying.{copied-more}
 use Rattle.digits.specs.Digit.{isDigit}
 use Rattle.digits.proofs.DigitLaws.{digit-range}
 use Rattle.elements.specs.Characters.{separator}
 use Rattle.code128.specs.Best.{valueB, bests, fromB, fromC}
-use Rattle.code128.specs.States.{from, wayOf, stateOf, Steps}
+use Rattle.code128.specs.States.{from, wayOf, stateOf, StepsInC, Written}
 use Rattle.code128.proofs.BestLaws.{pairOf}
 use Rattle.code128.proofs.StateLaws.{InC, parts, pairs, Goes, goes-on}
 
@@ -61,27 +62,20 @@ module _ (message : List ℕ) (at : ℕ) (h : at < length message) (state : ℕ)
   goes : Goes (wayOf state) byte rest
   goes = subst (λ (s : ℕ). Goes (wayOf s) byte rest) (sym (is ∙ ap stateOf whole)) (goes-on byte rest)
 
-  pub steps-to-c : 12 ≤ state → Steps message at false (record { value = 99; next = at; c = true })
-  steps-to-c on = record {
-    best = rw whole (goes .to-c (simp (le-ltb state 4 (omega arith), le-ltb state 12 on) (omega arith)));
-    within = omega arith;
-  }
+  pub to-c : 12 ≤ state → fromB (drop at message) ≡ 99 ∷ fromC (drop at message)
+  to-c on = rw whole (goes .to-c (simp (le-ltb state 4 (omega arith), le-ltb state 12 on) (omega arith)))
 
-  pub steps-in-b : state < 12 → (value : ℕ) → value ≡ valueB byte → Steps message at false (record { value = value; next = at + 1; c = false })
-  steps-in-b on value e = record {
-    best = rw whole (goes .in-b (way-to-c state on)) ∙ ap (λ (v : ℕ). v ∷ fromB rest) (sym e);
-    within = omega arith;
-  }
+  pub in-b : state < 12 → fromB (drop at message) ≡ valueB byte ∷ fromB rest
+  in-b on = rw whole (goes .in-b (way-to-c state on))
 
-  pub steps-to-b : state < 4 → Steps message at true (record { value = 100; next = at; c = false })
-  steps-to-b on = record {
-    best = rw whole (goes .to-b (simp (lt-ltb state 4 on) (omega arith)));
-    within = omega arith;
-  }
+  pub to-b : state < 4 → fromC (drop at message) ≡ 100 ∷ fromB (drop at message)
+  to-b on = rw whole (goes .to-b (simp (lt-ltb state 4 on) (omega arith)))
 
-  pub steps-parted : 4 ≤ state → byte ≡ separator → Steps message at true (record { value = 102; next = at + 1; c = true })
+  pub steps-parted : 4 ≤ state → byte ≡ separator → StepsInC message at (record { value = 102; next = at + 1 })
   steps-parted on parting = record {
     best = rw whole (parted-of (goes .in-c (way-from-b state on)) parting);
+    later = omega arith;
+    near = omega arith;
     within = omega arith;
   }
 
@@ -101,12 +95,14 @@ module _ (message : List ℕ) (at : ℕ) (h : at < length message) (state : ℕ)
     pub pair-second : isDigit (getD message (at + 1) 0) ≡ true
     pair-second = ap isDigit (sym next-is) ∙ paired .second
 
-    pub steps-paired : Steps message at true (record { value = pairOf byte (getD message (at + 1) 0); next = at + 2; c = true })
+    pub steps-paired : StepsInC message at (record { value = pairOf byte (getD message (at + 1) 0); next = at + 2 })
     steps-paired =
         let two : at + 1 + 1 ≡ at + 2 = omega arith in
         let past : drop 1 rest ≡ drop (at + 2) message = drop-drop 1 (at + 1) message ∙ ap (λ (k : ℕ). drop k message) two in
         record {
           best = rw (whole, ← next-is, ← past) (paired .best);
+          later = omega arith;
+          near = omega arith;
           within = omega (arith, pair-within);
         }
 
@@ -122,6 +118,17 @@ begun xs n x ys e = record {
   first = ap (λ (k : ℕ). getD xs k 0) (omega arith) ∙ sym (getD-drop n xs 0 0) ∙ ap (λ (l : List ℕ). getD l 0 0) e;
   left = sym (drop-drop 1 n xs) ∙ ap (drop 1) e;
 }
+
+-- one value more
+pub written-more : (best before message : List ℕ) (c c′ : Bool) (i i′ n v : ℕ) (values : List ℕ) → from c (drop i message) ≡ v ∷ from c′ (drop i′ message) → Written best before message c i n values → Written best before message c′ i′ (n + 1) (set values n v)
+written-more best before message c c′ i i′ n v values e w =
+    let turn = begun best n v (from c′ (drop i′ message)) (w .left ∙ e) in
+    record {
+      room = w .room;
+      few = omega (arith, turn .within);
+      left = turn .left;
+      lent = rw (w .lent, ← turn .first) (copied-more best before n 0 (turn .within) (omega (arith, turn .within, w .room)));
+    }
 
 pub nothing-left : (c : Bool) (message : List ℕ) (i : ℕ) → length message ≤ i → from c (drop i message) ≡ []
 unfolding bests

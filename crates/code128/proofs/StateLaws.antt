@@ -1,6 +1,6 @@
 -- A state tells the truth of the text ahead: by induction on the text, a byte more moves the lead and the reach as the tables say, and the
 -- lengths that they stand for decide which spelling is better.
-use Prim.Native.Nat.{ℕ, zero, suc, _+_, _-_, _≤_, _<_}
+use Prim.Native.Nat.{ℕ, zero, _+_, _-_, _≤_, _<_}
 use mathlib.Core.Path.{_≡_, refl, sym, ap, _∙_}
 use mathlib.Core.Bool.{Bool, true, false, cond, _&&_}
 use mathlib.Core.List.{List, [], _∷_}

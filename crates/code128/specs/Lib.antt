@@ -16,7 +16,8 @@
 --   bestSpelling              Best         the shortest spelling in sets B and C, and of these the first
 --   from                      States       what is best from the set that is on
 --   stateAt, stateOf, wayOf   States       the state at a place, and in which set the byte there is spelled
---   Steps                     States       what the forward pass promises of one value
+--   StatesOf                  States       the states of a message's places, as a list
+--   StepsInC, Written, Runs   States       what the forward pass promises of one value, and of a run of them
 pub mod Characters
 pub mod Matching
 pub mod Check

@@ -1,14 +1,15 @@
 -- How the best spelling is found: from the end of the message on, a state at each place tells all that matters of the text ahead, which is
 -- by how much what is best from B is longer than what is best from C; and it tells in which set the byte at the place is spelled.
-use Prim.Native.Nat.{ℕ, _+_, _≤_}
+use Prim.Native.Nat.{ℕ, _+_, _≤_, _<_}
 use mathlib.Core.Path.{_≡_}
 use mathlib.Core.Bool.{Bool, cond}
-use mathlib.Core.List.{List, [], _∷_}
-use lib.ListN.{length, getD, drop}
+use mathlib.Core.List.{List, [], _∷_, _++_}
+use lib.ListN.{length, getD, take, drop}
 use lib.Dec.{eqb, ltb}
 use Rattle.digits.specs.Digit.{isDigit}
 use Rattle.elements.specs.Characters.{separator}
 use Rattle.code128.specs.declared.spelling.Step.{Step}
+use Rattle.code128.specs.declared.spelling.Place.{Place}
 use Rattle.code128.specs.Best.{fromB, fromC}
 
 -- from set C where that is on, else from set B
@@ -46,7 +47,26 @@ stateOf (byte ∷ rest) = stateAt byte (stateOf rest)
 unfoldable pub startsInC : ℕ → Bool
 startsInC state = eqb (getD atSeparator state 0) 12
 
--- one value of the best spelling from a place on, and the set and the place from which it goes on
-pub record Steps (message : List ℕ) (at : ℕ) (c : Bool) (step : Step) : Type 0 where
-  pub best : from c (drop at message) ≡ step .value ∷ from (step .c) (drop (step .next) message)
+-- the states of a message's places
+abbrev pub StatesOf : List ℕ → List ℕ → Type 0
+StatesOf message states = (k : ℕ) → k < length message → getD states k 0 ≡ stateOf (drop k message)
+
+-- one value of what is best from set C, and the place from which it goes on
+pub record StepsInC (message : List ℕ) (at : ℕ) (step : Step) : Type 0 where
+  pub best : fromC (drop at message) ≡ step .value ∷ fromC (drop (step .next) message)
+  pub later : at < step .next
+  pub near : step .next ≤ at + 2
   pub within : step .next ≤ length message
+
+-- n values of a spelling, and after them what a list held before; what is left of the spelling is what is best from set and place
+pub record Written (best before message : List ℕ) (c : Bool) (at n : ℕ) (values : List ℕ) : Type 0 where
+  pub room : length best ≤ length before
+  pub few : n ≤ length best
+  pub left : drop n best ≡ from c (drop at message)
+  pub lent : values ≡ take n best ++ drop n before
+
+-- a run of values in one set goes on with any spelling that has come so far
+pub record Runs (message : List ℕ) (c : Bool) (at n : ℕ) (values : List ℕ) (place : Place) (after : List ℕ) : Type 0 where
+  pub within : place .at ≤ length message
+  pub more : n < place .count
+  pub writes : (best before : List ℕ) → Written best before message c at n values → Written best before message (place .c) (place .at) (place .count) after

@@ -3,12 +3,12 @@
 ghost use mathlib.Core.Path.{_≡_};
 ghost use mathlib.Core.Bool.{true, false, cond};
 ghost use mathlib.Core.List.{_++_};
-ghost use Prim.Native.Nat.{ℕ, _≤_, _<_};
-ghost use lib.ListN.{length, getD, drop};
+ghost use Prim.Native.Nat.{_+_, _≤_, _<_};
+ghost use lib.ListN.{length, drop};
 ghost use Rattle.laws.specs.First.{firstNot};
 ghost use Rattle.elements.specs.Characters.{isMessageByte};
-ghost use Rattle.code128.specs.Best.{bestSpelling};
-ghost use Rattle.code128.specs.States.{from, stateAt, stateOf, startsInC, Steps};
+ghost use Rattle.code128.specs.Best.{valueB, fromB, fromC, bestSpelling};
+ghost use Rattle.code128.specs.States.{from, stateAt, stateOf, startsInC, StatesOf, StepsInC, Runs};
 use elements::characters::SEPARATOR;
 
 const FNC1: u8 = 102;
@@ -26,10 +26,16 @@ const AT_DIGIT: [u8; 16] = [1, 5, 6, 13, 2, 7, 10, 8, 11, 13, 14, 15, 3, 9, 10, 
 
 const AT_SEPARATOR: [u8; 16] = [0, 0, 0, 0, 4, 4, 12, 4, 12, 0, 4, 12, 12, 12, 12, 12];
 
-// One value, and from which place and set the spelling goes on.
+// One value of set C, and the place after what it spells.
 struct Step {
     value: u8,
     next: usize,
+}
+
+// How far a spelling has come: the place in the message, the count of values written, and whether set C is on.
+struct Place {
+    at: usize,
+    count: usize,
     c: bool,
 }
 
@@ -69,7 +75,7 @@ fn start_of(c: bool) -> u8
 fn plan(message: &[u8], states: &mut [u8]) -> u8
     requires { ⌜ length (now message) ≤ length (now states) ⌝ }
     ensures { λ r. ⌜ r ≡ stateOf (now (message .entry)) ⌝ }
-    ensures { λ r. ⌜ ((k : ℕ) → k < length (now (message .entry)) → getD (now (states .exit)) k 0 ≡ stateOf (drop k (now (message .entry)))) ⌝ }
+    ensures { λ _. ⌜ StatesOf (now (message .entry)) (now (states .exit)) ⌝ }
 {
     let mut state = STAYS;
     let mut i = message.len();
@@ -95,11 +101,11 @@ fn state_at(byte: u8, past: u8) -> u8
     IN_B
 }
 
-// Writes what is best from a set on, a value a turn.
+// Writes what is best from a set on, one run after the other.
 fn spell_from(message: &[u8], states: &[u8], start: bool, values: &mut [u8]) -> usize
     requires { ⌜ length (now message) ≤ length (now states) ⌝ }
     requires { ⌜ firstNot isMessageByte (now message) ≡ length (now message) ⌝ }
-    requires { ⌜ ((k : ℕ) → k < length (now message) → getD (now states) k 0 ≡ stateOf (drop k (now message))) ⌝ }
+    requires { ⌜ StatesOf (now message) (now states) ⌝ }
     requires { ⌜ length (from start (now message)) ≤ length (now values) ⌝ }
     ensures { λ r. ⌜ r ≡ length (from start (now (message .entry))) ⌝ }
     ensures { λ r. ⌜ now (values .exit) ≡ from start (now (message .entry)) ++ drop r (now (values .entry)) ⌝ }
@@ -108,81 +114,124 @@ fn spell_from(message: &[u8], states: &[u8], start: bool, values: &mut [u8]) -> 
     let mut n = 0;
     let mut i = 0;
     while i < message.len() {
-        let step = next_of(message, i, states[i], c);
-        values[n] = step.value;
-        n += 1;
-        i = step.next;
-        c = step.c;
+        let place = run_from(message, states, c, i, values, n);
+        n = place.count;
+        i = place.at;
+        c = place.c;
     }
     n
 }
 
-// The value that comes next.
-fn next_of(message: &[u8], at: usize, state: u8, c: bool) -> Step
-    requires { ⌜ at < length (now message) ⌝ }
+// One run, in the set that is on.
+fn run_from(
+    message: &[u8],
+    states: &[u8],
+    c: bool,
+    begin: usize,
+    values: &mut [u8],
+    at: usize,
+) -> Place
+    requires { ⌜ begin < length (now message) ⌝ }
+    requires { ⌜ length (now message) ≤ length (now states) ⌝ }
     requires { ⌜ firstNot isMessageByte (now message) ≡ length (now message) ⌝ }
-    requires { ⌜ state ≡ stateOf (drop at (now message)) ⌝ }
-    ensures { λ r. ⌜ Steps (now (message .entry)) at c r ⌝ }
+    requires { ⌜ StatesOf (now message) (now states) ⌝ }
+    requires { ⌜ at + length (from c (drop begin (now message))) ≤ length (now values) ⌝ }
+    ensures { λ r. ⌜ Runs (now (message .entry)) c begin at (now (values .entry)) r (now (values .exit)) ⌝ }
 {
     if c {
-        return next_in_c(message, at, state);
+        return run_c(message, states, begin, values, at);
     }
-    next_in_b(message, at, state)
+    run_b(message, states, begin, values, at)
 }
 
-// Where set B is on: the change to C, FNC1 or a byte.
-fn next_in_b(message: &[u8], at: usize, state: u8) -> Step
-    requires { ⌜ at < length (now message) ⌝ }
+// Writes values of set B up to the end, or to the change to C.
+fn run_b(message: &[u8], states: &[u8], begin: usize, values: &mut [u8], at: usize) -> Place
+    requires { ⌜ begin < length (now message) ⌝ }
+    requires { ⌜ length (now message) ≤ length (now states) ⌝ }
     requires { ⌜ firstNot isMessageByte (now message) ≡ length (now message) ⌝ }
-    requires { ⌜ state ≡ stateOf (drop at (now message)) ⌝ }
-    ensures { λ r. ⌜ Steps (now (message .entry)) at false r ⌝ }
+    requires { ⌜ StatesOf (now message) (now states) ⌝ }
+    requires { ⌜ at + length (fromB (drop begin (now message))) ≤ length (now values) ⌝ }
+    ensures { λ r. ⌜ Runs (now (message .entry)) false begin at (now (values .entry)) r (now (values .exit)) ⌝ }
 {
-    if IN_C <= state {
-        return Step {
-            value: 99,
-            next: at,
-            c: true,
-        };
+    let mut i = begin;
+    let mut n = at;
+    while i < message.len() {
+        if IN_C <= states[i] {
+            values[n] = 99;
+            return Place {
+                at: i,
+                count: n + 1,
+                c: true,
+            };
+        }
+        values[n] = value_in_b(message[i]);
+        n += 1;
+        i += 1;
     }
-    let byte = message[at];
-    if byte == SEPARATOR {
-        return Step {
-            value: FNC1,
-            next: at + 1,
-            c: false,
-        };
-    }
-    Step {
-        value: byte - 32,
-        next: at + 1,
+    Place {
+        at: i,
+        count: n,
         c: false,
     }
 }
 
-// Where set C is on: the change to B, FNC1 or two digits.
+// Writes values of set C likewise.
+fn run_c(message: &[u8], states: &[u8], begin: usize, values: &mut [u8], at: usize) -> Place
+    requires { ⌜ begin < length (now message) ⌝ }
+    requires { ⌜ length (now message) ≤ length (now states) ⌝ }
+    requires { ⌜ StatesOf (now message) (now states) ⌝ }
+    requires { ⌜ at + length (fromC (drop begin (now message))) ≤ length (now values) ⌝ }
+    ensures { λ r. ⌜ Runs (now (message .entry)) true begin at (now (values .entry)) r (now (values .exit)) ⌝ }
+{
+    let mut i = begin;
+    let mut n = at;
+    while i < message.len() {
+        if states[i] < STAYS {
+            values[n] = 100;
+            return Place {
+                at: i,
+                count: n + 1,
+                c: false,
+            };
+        }
+        let step = next_in_c(message, i, states[i]);
+        values[n] = step.value;
+        n += 1;
+        i = step.next;
+    }
+    Place {
+        at: i,
+        count: n,
+        c: true,
+    }
+}
+
+fn value_in_b(byte: u8) -> u8
+    requires { ⌜ isMessageByte byte ≡ true ⌝ }
+    ensures { λ r. ⌜ r ≡ valueB byte ⌝ }
+{
+    if byte == SEPARATOR {
+        return FNC1;
+    }
+    byte - 32
+}
+
+// FNC1 or two digits.
 fn next_in_c(message: &[u8], at: usize, state: u8) -> Step
     requires { ⌜ at < length (now message) ⌝ }
     requires { ⌜ state ≡ stateOf (drop at (now message)) ⌝ }
-    ensures { λ r. ⌜ Steps (now (message .entry)) at true r ⌝ }
+    requires { ⌜ 4 ≤ state ⌝ }
+    ensures { λ r. ⌜ StepsInC (now (message .entry)) at r ⌝ }
 {
-    if state < STAYS {
-        return Step {
-            value: 100,
-            next: at,
-            c: false,
-        };
-    }
     let byte = message[at];
     if byte == SEPARATOR {
         return Step {
             value: FNC1,
             next: at + 1,
-            c: true,
         };
     }
     Step {
         value: 10 * (byte - b'0') + (message[at + 1] - b'0'),
         next: at + 2,
-        c: true,
     }
 }

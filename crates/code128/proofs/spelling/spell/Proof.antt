@@ -1,7 +1,7 @@
 -- `code128::spelling::spell` meets its contract: the state of the whole message tells the better start, and after it and FNC1 comes what is
 -- best from its set, in the places that are left.
 use Prim.Native.Nat.{ℕ, suc, _+_, _≤_}
-use mathlib.Core.Path.{_≡_, sym, ap, ap₂, _∙_}
+use mathlib.Core.Path.{_≡_, sym, ap, _∙_}
 use mathlib.Core.Bool.{Bool, cond}
 use mathlib.Core.List.{List, [], _∷_, _++_, append-nil}
 use native.Mathlib.Omega.{arith}
