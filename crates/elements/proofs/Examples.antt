@@ -1,13 +1,10 @@
--- Document 01, "Examples on each side": P8 to P14 in one table, under one statement about the rule, which is computed.
-use Prim.Native.Nat.{ℕ}
+-- Document 01's P8 split into its strings, and a message of ten strings, both computed.
 use mathlib.Core.Path.{_≡_, refl}
 use mathlib.Core.Bool.{true, false}
-use mathlib.Core.List.{List, [], _∷_, map}
+use mathlib.Core.List.{[], _∷_}
 use Rattle.laws.specs.First.{firstNot}
 use Rattle.laws.specs.Weighed.{weighed}
-use Rattle.refusal.specs.declared.Answer.{Answer}
-use Rattle.refusal.specs.declared.Answer.the-variants.{Done, Refused}
-use Rattle.refusal.specs.declared.Refusal.the-variants.{Identifier, Data, Repeated}
+use Rattle.refusal.specs.declared.Answer.the-variants.{Done}
 use Rattle.refusal.specs.Outcome.{made}
 use Rattle.refusal.specs.Fills.{answerOf}
 use Rattle.digits.specs.Check.{weightAt, isRight}
@@ -16,29 +13,6 @@ use Rattle.elements.specs.Characters.{placeIn, eightyTwo, isOf82, toSepa
 use Rattle.elements.specs.Identifiers.{measures, table, kindIn, kindOf, spelled, firstOf, identifiersOf, listed, identifierIn}
 use Rattle.elements.specs.Data.{isDate, isNumber, passes, rightData}
 use Rattle.elements.specs.Strings.{dataOf, nextAfter, elementOf, stringAt, stringsFrom, parsed, tested}
-
--- a message, and what its test answers
-abbrev examples : List (List ℕ × Answer)
-examples =
-    -- P9 "10"
-    (49 ∷ 48 ∷ [], Refused (Data 0))
-    -- P10 "2012^10A"
-    ∷ (50 ∷ 48 ∷ 49 ∷ 50 ∷ 29 ∷ 49 ∷ 48 ∷ 65 ∷ [], Refused (Identifier 4))
-    -- P11 "3106000750"
-    ∷ (51 ∷ 49 ∷ 48 ∷ 54 ∷ 48 ∷ 48 ∷ 48 ∷ 55 ∷ 53 ∷ 48 ∷ [], Refused (Identifier 0))
-    -- P12 "17261300"
-    ∷ (49 ∷ 55 ∷ 50 ∷ 54 ∷ 49 ∷ 51 ∷ 48 ∷ 48 ∷ [], Refused (Data 0))
-    -- P13 "20122013"
-    ∷ (50 ∷ 48 ∷ 49 ∷ 50 ∷ 50 ∷ 48 ∷ 49 ∷ 51 ∷ [], Refused (Repeated 4))
-    -- P14 "0110012345678903"
-    ∷ (48 ∷ 49 ∷ 49 ∷ 48 ∷ 48 ∷ 49 ∷ 50 ∷ 51 ∷ 52 ∷ 53 ∷ 54 ∷ 55 ∷ 56 ∷ 57 ∷ 48 ∷ 51 ∷ [], Refused (Data 0))
-    -- P8 "011001234567890210ABC123"
-    ∷ (48 ∷ 49 ∷ 49 ∷ 48 ∷ 48 ∷ 49 ∷ 50 ∷ 51 ∷ 52 ∷ 53 ∷ 54 ∷ 55 ∷ 56 ∷ 57 ∷ 48 ∷ 50 ∷ 49 ∷ 48 ∷ 65 ∷ 66 ∷ 67 ∷ 49 ∷ 50 ∷ 51 ∷ [], Done 2)
-    ∷ []
-
-pub examples-hold : map (λ (example : List ℕ × Answer). answerOf (tested (example .0))) examples ≡ map (λ (example : List ℕ × Answer). example .1) examples
-unfolding tested parsed stringsFrom stringAt elementOf nextAfter dataOf rightData passes isNumber isDate isRight weightAt weighed identifierIn firstOf listed identifiersOf table measures kindOf kindIn spelled same isMessageByte isOf82 eightyTwo toSeparator placeIn firstNot
-examples-hold = refl
 
 -- the strings of P8: a GTIN and a batch number
 pub strings-of-P8 : tested (48 ∷ 49 ∷ 49 ∷ 48 ∷ 48 ∷ 49 ∷ 50 ∷ 51 ∷ 52 ∷ 53 ∷ 54 ∷ 55 ∷ 56 ∷ 57 ∷ 48 ∷ 50 ∷ 49 ∷ 48 ∷ 65 ∷ 66 ∷ 67 ∷ 49 ∷ 50 ∷ 51 ∷ []) ≡ made (record { identifier = 1; begin = 2; length = 14; next = 16; last = false } ∷ record { identifier = 10; begin = 18; length = 6; next = 25; last = true } ∷ [])

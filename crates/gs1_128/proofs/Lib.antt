@@ -1,5 +1,5 @@
 -- The laws of GS1-128's symbols and of their scan; what the reader's and the writer's proofs rest on; theorems 2 and 4 (Theorems), what comes back
--- (ComesBack), the examples, and theorem 6 (Damage, and DamageEnds for the reader of an unnamed list).
+-- (ComesBack), and theorem 6 (Damage, and DamageEnds for the reader of an unnamed list).
 pub mod TableLaws
 pub mod CountLaws
 pub mod SymbolLaws
@@ -11,7 +11,6 @@ pub mod DrawnLaws
 pub mod WrittenLaws
 pub mod Theorems
 pub mod ComesBack
-pub mod Examples
 pub mod CheckedLaws
 pub mod DamageLaws
 pub mod RedrawnLaws
