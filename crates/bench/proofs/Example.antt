@@ -3,14 +3,15 @@ use Prim.Native.Nat.{ℕ}
 use mathlib.Core.Path.{_≡_, refl}
 use mathlib.Core.List.{List, [], _∷_, _++_}
 use Rattle.laws.specs.First.{firstNot}
-use Rattle.elements.specs.Characters.{placeIn, eightyTwo, isOf82, toSeparator, isMessageByte}
-use Rattle.elements.specs.Data.{isDate, isNumber, passes, rightData}
-use Rattle.elements.specs.Identifiers.{measures, table, kindIn, kindOf, spelled, firstOf, identifiersOf, listed, identifierIn}
+use Rattle.laws.specs.Among.{placeIn}
+use Rattle.character_set_82.specs.Characters.{eightyTwo, isOf82, toSeparator, isMessageByte}
+use Rattle.identifiers.specs.Data.{isDate, isNumber, passes, rightData}
+use Rattle.identifiers.specs.Identifiers.{measures, table, kindIn, kindOf, spelled, firstOf, identifiersOf, listed, identifierIn}
 use Rattle.elements.specs.Strings.{dataOf, nextAfter, elementOf, stringAt, stringsFrom, parsed, tested}
 use Rattle.patterns.specs.Patterns.{same, drawn}
 use Rattle.code128.specs.Characters.{row, patterns, stop}
 use Rattle.code128.specs.Check.{placed, checkOf}
-use Rattle.code128.specs.Best.{comesFirst, better, bests, bestSpelling}
+use Rattle.spelling.specs.Best.{comesFirst, better, bests, bestSpelling}
 use Rattle.gs1_128.specs.Symbol.{symbolOf}
 use Rattle.gs1_128.specs.Calls.{writes}
 use Rattle.text.specs.Decimal.{decimalIn, decimalOf, apart}

@@ -11,7 +11,7 @@ use Rattle.refusal.specs.declared.Refusal.{Refusal}
 use Rattle.refusal.specs.declared.Refusal.the-variants.{Room}
 use Rattle.refusal.specs.Outcome.{refused}
 use Rattle.elements.specs.Strings.{tested}
-use Rattle.elements.proofs.AddRefusals.{tested-has-room}
+use Rattle.elements.proofs.TestRefusals.{tested-has-room}
 use Rattle.text.specs.Decimal.{apart}
 use Rattle.text.specs.Typed.{messageOf}
 use Rattle.gs1_128.specs.Calls.{writes}

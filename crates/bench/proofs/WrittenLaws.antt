@@ -16,7 +16,7 @@ use Rattle.refusal.proofs.OutcomeLaws.{made-not-refused}
 use Rattle.elements.specs.declared.Element.{Element}
 use Rattle.elements.specs.Strings.{tested}
 use Rattle.elements.proofs.Theorems.{strings-of-accepted}
-use Rattle.code128.specs.Best.{bestSpelling}
+use Rattle.spelling.specs.Best.{bestSpelling}
 use Rattle.gs1_128.specs.Calls.{writes}
 use Rattle.gs1_128.proofs.WrittenLaws.{write-refused}
 use Rattle.gs1_128.proofs.ComesBack.{bestSymbol, best-room, writes-best, written}

@@ -14,15 +14,14 @@ use Rattle.refusal.specs.declared.Answer.the-variants.{Done, Refused}
 use Rattle.refusal.specs.Outcome.{Outcome, made, refused}
 use Rattle.refusal.specs.Fills.{answerOf, Fills}
 use Rattle.refusal.proofs.FillsLaws.{fills-within}
-use Rattle.text.specs.declared.Number.{Number}
 use Rattle.text.specs.declared.Number.the-variants.{Is, Malformed}
 use Rattle.text.specs.Numeral.{isNumeral, numberFrom, numberIn}
 use Rattle.elements.specs.declared.Element.{Element}
-use Rattle.elements.specs.declared.Record.{Record}
-use Rattle.elements.specs.Asking.{asked, partOf}
-use Rattle.elements.specs.Splitting.{recordOf, splits}
-use Rattle.elements.proofs.AskedData.{string-of-asked}
-use Rattle.elements.proofs.SplitLaws.{splits-made}
+use Rattle.splitting.specs.declared.Record.{Record}
+use Rattle.asking.specs.Asking.{asked, partOf}
+use Rattle.splitting.specs.Splitting.{recordOf, splits}
+use Rattle.asking.proofs.AskedData.{string-of-asked}
+use Rattle.splitting.proofs.SplitLaws.{splits-made}
 use Rattle.symbols.specs.declared.Kind.{Kind}
 use Rattle.symbols.specs.declared.Reading.{Reading}
 use Rattle.symbols.specs.declared.Reading.the-variants.{Read}

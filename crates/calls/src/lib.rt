@@ -4,8 +4,8 @@ mod digit;
 mod drawing;
 mod messages;
 mod reading;
+mod records;
 mod room;
-mod splitting;
 mod widths;
 mod words;
 
@@ -73,7 +73,7 @@ fn call(line: &[u8], room: Room, out: &mut [u8]) -> usize
     match words::named(&line[0..end]) {
         Word::Digit => digit::digit(&line[from..], out),
         Word::Test => messages::test(&line[from..], out),
-        Word::Split => splitting::split(&line[from..], room, out),
+        Word::Split => records::split(&line[from..], room, out),
         Word::Ask => messages::ask(&line[from..], out),
         Word::Add => messages::add(&line[from..], room, out),
         Word::Draw(kind) => drawing::draw(kind, &line[from..], room, out),

@@ -54,11 +54,11 @@ fn put_asked(message: &[u8], identifier: usize, out: &mut [u8]) -> usize
     requires { ⌜ 1024 ≤ length (now out) ⌝ }
     ensures { λ r. ⌜ (0 < r) × (r ≤ 1024) ⌝ }
 {
-    let answer = elements::asked(message, identifier);
+    let answer = asking::asked(message, identifier);
     let Answer::Done(_) = answer else {
         return answers::put_answer(answer, out);
     };
-    answers::put_counted(Form::Bytes, elements::ask(message, identifier), out)
+    answers::put_counted(Form::Bytes, asking::ask(message, identifier), out)
 }
 
 pub fn add(text: &[u8], room: Room, out: &mut [u8]) -> usize
@@ -119,7 +119,7 @@ fn add_in(
     ensures { λ r. ⌜ (0 < r) × (r ≤ 1024) ⌝ }
 {
     message_in(text, buffer);
-    let answer = elements::add(buffer, text.len(), identifier, content);
+    let answer = adding::add(buffer, text.len(), identifier, content);
     answers::put_made(answer, Form::Bytes, buffer, out)
 }
 

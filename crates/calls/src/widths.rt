@@ -1,5 +1,5 @@
 // Lists of widths as text, going in: without a space one digit to a width, with spaces decimal numbers from 0 to 255.
-ghost use Prim.Native.Nat.{_≤_, _<_};
+ghost use Prim.Native.Nat.{_<_};
 ghost use lib.ListN.{length};
 ghost use Rattle.calls.specs.Places.{Counted};
 use text::Number;

@@ -10,7 +10,7 @@ use lib.Dec.{eqb, eqb→eq}
 use Rattle.laws.proofs.Exchanged.{exchanged}
 use Rattle.laws.proofs.Remainders.{same-and-more, same-below, same-without, same-if-balanced, same-without-factor, same-if-exchanged}
 use Rattle.laws.proofs.Tables.{at-entry}
-use Rattle.elements.specs.Characters.{run}
+use Rattle.laws.specs.Run.{run}
 use Rattle.code128.specs.Check.{placed, checkOf}
 use Rattle.code128.proofs.PlacedLaws.{placed-last, placed-set, placed-exchanged}
 

@@ -12,7 +12,7 @@ use Rattle.laws.specs.First.{firstNot}
 use Rattle.laws.specs.Packed.{packed}
 use Rattle.laws.proofs.Packed.{Bytes, packed-same}
 use Rattle.laws.proofs.Tables.{every, at-entry}
-use Rattle.elements.specs.Characters.{run}
+use Rattle.laws.specs.Run.{run}
 use Rattle.patterns.specs.Patterns.{same, valueIn}
 use Rattle.patterns.proofs.PatternLaws.{same-true, value-of, value-none}
 use Rattle.code128.specs.declared.characters.Match.the-variants.{Value, Nothing}

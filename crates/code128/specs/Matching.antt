@@ -7,7 +7,7 @@ use lib.ListN.{length, take, drop}
 use lib.Dec.{eqb, ltb}
 use Rattle.laws.specs.First.{firstNot}
 use Rattle.laws.specs.Packed.{packed}
-use Rattle.elements.specs.Characters.{run}
+use Rattle.laws.specs.Run.{run}
 use Rattle.code128.specs.declared.characters.Match.{Match}
 use Rattle.code128.specs.declared.characters.Match.the-variants.{Value, Nothing}
 use Rattle.code128.specs.Characters.{patterns}

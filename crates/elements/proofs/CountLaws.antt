@@ -14,7 +14,7 @@ use Rattle.refusal.specs.Outcome.{Outcome, made, refused, _>>=_}
 use Rattle.refusal.specs.Fills.{answerOf}
 use Rattle.elements.specs.declared.Element.{Element}
 use Rattle.elements.specs.declared.Found.the-variants.{String, Refused as NotFound}
-use Rattle.elements.specs.Characters.{among}
+use Rattle.laws.specs.Among.{among}
 use Rattle.elements.specs.Strings.{stringAt, stringsFrom}
 use Rattle.elements.specs.Calls.{foundOf}
 

@@ -14,13 +14,13 @@ use borrow.Author.Tests.{eqb-true, eqb-false, not-false}
 use Rattle.laws.specs.First.{firstNot}
 use Rattle.laws.proofs.FirstLaws.{first-fails}
 use Rattle.elements.specs.declared.Element.{Element}
-use Rattle.elements.specs.declared.identifiers.Kind.{Kind}
-use Rattle.elements.specs.Characters.{separator, toSeparator}
-use Rattle.elements.specs.Identifiers.{kindOf, spelled}
-use Rattle.elements.specs.Data.{rightData}
+use Rattle.identifiers.specs.declared.Kind.{Kind}
+use Rattle.character_set_82.specs.Characters.{separator, toSeparator}
+use Rattle.identifiers.specs.Identifiers.{kindOf, spelled}
+use Rattle.identifiers.specs.Data.{rightData}
 use Rattle.elements.specs.Strings.{dataOf, nextAfter, elementOf}
 use Rattle.elements.specs.Messages.{Right, closing, stringOf}
-use Rattle.elements.proofs.ListedLaws.{listed-found}
+use Rattle.identifiers.proofs.ListedLaws.{listed-found}
 use Rattle.elements.proofs.StringLaws.{data-part, data-within, data-to-separator, FoundAt, begin-within}
 
 pub closing-is : (x : ℕ) (kind : Kind) → kindOf x ≡ some kind → closing x ≡ cond (kind .predefined) [] (separator ∷ [])

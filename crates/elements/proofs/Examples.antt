@@ -9,9 +9,10 @@ use Rattle.refusal.specs.Outcome.{made}
 use Rattle.refusal.specs.Fills.{answerOf}
 use Rattle.digits.specs.Check.{weightAt, isRight}
 use Rattle.patterns.specs.Patterns.{same}
-use Rattle.elements.specs.Characters.{placeIn, eightyTwo, isOf82, toSeparator, isMessageByte}
-use Rattle.elements.specs.Identifiers.{measures, table, kindIn, kindOf, spelled, firstOf, identifiersOf, listed, identifierIn}
-use Rattle.elements.specs.Data.{isDate, isNumber, passes, rightData}
+use Rattle.laws.specs.Among.{placeIn}
+use Rattle.character_set_82.specs.Characters.{eightyTwo, isOf82, toSeparator, isMessageByte}
+use Rattle.identifiers.specs.Identifiers.{measures, table, kindIn, kindOf, spelled, firstOf, identifiersOf, listed, identifierIn}
+use Rattle.identifiers.specs.Data.{isDate, isNumber, passes, rightData}
 use Rattle.elements.specs.Strings.{dataOf, nextAfter, elementOf, stringAt, stringsFrom, parsed, tested}
 
 -- the strings of P8: a GTIN and a batch number

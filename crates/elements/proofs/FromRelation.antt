@@ -16,19 +16,21 @@ use Rattle.laws.proofs.FirstLaws.{first-of-nil, pass-also, pass-append}
 use Rattle.refusal.specs.Outcome.{made}
 use Rattle.digits.specs.Digit.{isDigit}
 use Rattle.elements.specs.declared.Element.{Element}
-use Rattle.elements.specs.declared.identifiers.Kind.{Kind}
-use Rattle.elements.specs.Characters.{among, separator, isOf82, isMessageByte}
-use Rattle.elements.specs.Identifiers.{kindOf, spelled, identifierIn}
-use Rattle.elements.specs.Data.{rightData}
+use Rattle.identifiers.specs.declared.Kind.{Kind}
+use Rattle.laws.specs.Among.{among}
+use Rattle.character_set_82.specs.Characters.{separator, isOf82, isMessageByte}
+use Rattle.identifiers.specs.Identifiers.{kindOf, spelled, identifierIn}
+use Rattle.identifiers.specs.Data.{rightData}
 use Rattle.elements.specs.Strings.{dataOf, nextAfter, elementOf, stringAt, stringsFrom, parsed, tested}
 use Rattle.elements.specs.Messages.{ElementString, Right, AllRight, right-more, Different, different-more, closingOf, closing, joined, IsMessage, stringOf}
-use Rattle.elements.proofs.AmongLaws.{among-of-nil, among-more, among-append}
-use Rattle.elements.proofs.ListedLaws.{listed-if-kind, found-listed}
-use Rattle.elements.proofs.DecisionLaws.{spelling-of}
+use Rattle.laws.proofs.AmongLaws.{among-of-nil, among-more, among-append}
+use Rattle.identifiers.proofs.ListedLaws.{listed-if-kind, found-listed}
+use Rattle.identifiers.proofs.DecisionLaws.{spelling-of}
 use Rattle.elements.proofs.StringLaws.{data-part, string-right}
 use Rattle.elements.proofs.CountLaws.{from-last, from-made}
 use Rattle.elements.proofs.CutLaws.{closing-is}
-use Rattle.elements.proofs.PlainLaws.{separator-byte, digit-of-82, message-byte, sound, data-at-end, data-before}
+use Rattle.character_set_82.proofs.CharacterLaws.{separator-byte, digit-of-82, message-byte}
+use Rattle.elements.proofs.PlainLaws.{sound, data-at-end, data-before}
 use Rattle.elements.proofs.FromRule.{named, joined-more, regroup}
 
 abbrev withContent : ℕ → List ℕ → ElementString

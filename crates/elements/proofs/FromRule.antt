@@ -14,11 +14,12 @@ use Rattle.refusal.specs.declared.Refusal.the-variants.{Count, Character, Repea
 use Rattle.refusal.specs.Outcome.{made}
 use Rattle.refusal.proofs.OutcomeLaws.{must-made, bind-made, made-same}
 use Rattle.elements.specs.declared.Element.{Element}
-use Rattle.elements.specs.Characters.{among, isMessageByte}
-use Rattle.elements.specs.Identifiers.{spelled}
+use Rattle.laws.specs.Among.{among}
+use Rattle.character_set_82.specs.Characters.{isMessageByte}
+use Rattle.identifiers.specs.Identifiers.{spelled}
 use Rattle.elements.specs.Strings.{stringAt, stringsFrom, parsed, tested}
 use Rattle.elements.specs.Messages.{ElementString, AllRight, right-none, right-more, Different, different-none, different-more, closing, joined, IsMessage, stringOf}
-use Rattle.elements.proofs.AmongLaws.{among-of-nil, among-more, among-append}
+use Rattle.laws.proofs.AmongLaws.{among-of-nil, among-more, among-append}
 use Rattle.elements.proofs.StringLaws.{string-found, next-within}
 use Rattle.elements.proofs.CutLaws.{content-is, right-string, begins, goes-on, at-last, closes}
 

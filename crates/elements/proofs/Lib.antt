@@ -1,23 +1,24 @@
--- Laws of the rules, in the order in which they build on each other; then theorems 4 and 5, and the examples.
-pub mod AmongLaws
-pub mod ListedLaws
-pub mod SpelledLaws
-pub mod DecisionLaws
-pub mod RowLaws
-pub mod DataLaws
+-- Laws of the rules, in the order in which they build on each other; then theorem 4 for the test of a message, and the examples.
+--
+--   StringLaws     one element string: where its data ends, where the next must begin
+--   CountLaws      what the calls on one string answer; strings counted by a walk
+--   CutLaws        bytes that stand at a place, as the string that is found there
+--   PlainLaws      right data has no separator in it, and only bytes of a message
+--   FromRule       what the rule accepts is a message by the relation
+--   FromRelation   and the rule accepts every such message
+--   WalkLaws       the strings of a right message, one at a time
+--   TestRefusals   the refusals of the test, and no other
+--   TenStrings     48 bytes hold ten strings at the most
+--   Theorems       accepted exactly as the joining of right strings; one splitting; ten at most
+--   Examples       P8, and a message of ten strings
 pub mod StringLaws
 pub mod CountLaws
 pub mod CutLaws
 pub mod PlainLaws
 pub mod FromRule
 pub mod FromRelation
-pub mod AskLaws
-pub mod SplitLaws
-pub mod AddLaws
+pub mod WalkLaws
+pub mod TestRefusals
 pub mod TenStrings
 pub mod Theorems
-pub mod AskedData
-pub mod AddedStrings
-pub mod AddRefusals
-pub mod SplitStrings
 pub mod Examples

@@ -14,39 +14,15 @@ use Rattle.laws.specs.First.{firstNot}
 use Rattle.laws.proofs.Booleans.{both-hold}
 use Rattle.laws.proofs.FirstLaws.{first-at-seam, pass-also}
 use Rattle.digits.specs.Digit.{isDigit}
-use Rattle.digits.proofs.DigitLaws.{digit-range}
-use Rattle.elements.specs.declared.identifiers.Content.{Content}
-use Rattle.elements.specs.declared.identifiers.Content.the-variants.{DigitsWithCheck, Date, Digits, Text}
-use Rattle.elements.specs.declared.identifiers.Kind.{Kind}
-use Rattle.elements.specs.Characters.{placeIn, eightyTwo, isOf82, separator, toSeparator, isMessageByte}
-use Rattle.elements.specs.Data.{allPass, pairAt, isDate, isNumber, passes, rightData}
-use Rattle.elements.specs.Identifiers.{table, kindOf}
+use Rattle.identifiers.specs.declared.Content.{Content}
+use Rattle.identifiers.specs.declared.Content.the-variants.{DigitsWithCheck, Date, Digits, Text}
+use Rattle.identifiers.specs.declared.Kind.{Kind}
+use Rattle.character_set_82.specs.Characters.{isOf82, separator, toSeparator}
+use Rattle.identifiers.specs.Data.{allPass, pairAt, isDate, isNumber, passes, rightData}
+use Rattle.identifiers.specs.Identifiers.{table, kindOf}
 use Rattle.elements.specs.Strings.{dataOf}
-use Rattle.elements.proofs.AmongLaws.{in-run}
-use Rattle.elements.proofs.ListedLaws.{allRows, kind-passes}
-
-pub digit-of-82 : (b : ℕ) → isDigit b ≡ true → isOf82 b ≡ true
-unfolding isOf82 eightyTwo placeIn firstNot
-digit-of-82 b e = let range = digit-range b e in in-run isOf82 48 10 true tt b (omega arith) (omega arith)
-
-pub message-byte : (b : ℕ) → isOf82 b ≡ true → isMessageByte b ≡ true
-unfolding isMessageByte
-message-byte b e = rw e
-
-pub separator-byte : isMessageByte separator ≡ true
-unfolding isMessageByte isOf82 eightyTwo placeIn firstNot
-separator-byte = refl
-
-separator-not : isOf82 separator ≡ false
-unfolding isOf82 eightyTwo placeIn firstNot
-separator-not = refl
-
-no-separator : (b : ℕ) → isOf82 b ≡ true → not (eqb b separator) ≡ true
-no-separator b e = go (eqb b separator) refl
-  where
-    go : (t : Bool) → eqb b separator ≡ t → not t ≡ true
-    go false p = refl
-    go true p = absurd (let is : b ≡ separator = eqb-true b separator p in let no = separator-not in let z : _≡_ {A = ℕ} 0 1 = cc in omega arith)
+use Rattle.identifiers.proofs.ListedLaws.{allRows, kind-passes}
+use Rattle.character_set_82.proofs.CharacterLaws.{digit-of-82, no-separator}
 
 pub passes-of-82 : (content : Content) (bytes : List ℕ) → passes content bytes ≡ true → firstNot isOf82 bytes ≡ length bytes
 unfolding passes isNumber isDate

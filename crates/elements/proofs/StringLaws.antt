@@ -18,15 +18,15 @@ use Rattle.refusal.specs.declared.Refusal.the-variants.{Identifier, Data}
 use Rattle.refusal.specs.Outcome.{made, refused}
 use Rattle.refusal.proofs.OutcomeLaws.{must-made, bind-made, made-same}
 use Rattle.elements.specs.declared.Element.{Element}
-use Rattle.elements.specs.declared.identifiers.Kind.{Kind}
-use Rattle.elements.specs.declared.identifiers.Row.the-variants.{Listed, Unlisted}
-use Rattle.elements.specs.Characters.{separator, toSeparator}
-use Rattle.elements.specs.Identifiers.{table, kindOf, spelled, identifierIn}
-use Rattle.elements.specs.Calls.{withKind, rowOf, rowIn, rowAt}
-use Rattle.elements.specs.Data.{passes, rightData}
+use Rattle.identifiers.specs.declared.Kind.{Kind}
+use Rattle.identifiers.specs.declared.Row.the-variants.{Listed, Unlisted}
+use Rattle.character_set_82.specs.Characters.{separator, toSeparator}
+use Rattle.identifiers.specs.Identifiers.{table, kindOf, spelled, identifierIn}
+use Rattle.identifiers.specs.Rows.{withKind, rowOf, rowIn, rowAt}
+use Rattle.identifiers.specs.Data.{passes, rightData}
 use Rattle.elements.specs.Strings.{given, dataOf, nextAfter, elementOf, stringAt}
-use Rattle.elements.proofs.ListedLaws.{allRows, kind-passes, listed-found}
-use Rattle.elements.proofs.DecisionLaws.{begun}
+use Rattle.identifiers.proofs.ListedLaws.{allRows, kind-passes, listed-found}
+use Rattle.identifiers.proofs.DecisionLaws.{begun}
 
 cut-again : (n : ℕ) (xs : List ℕ) → take (length (take n xs)) xs ≡ take n xs
 cut-again zero xs = refl

@@ -10,12 +10,12 @@ use lib.ListN.{length}
 use lib.Dec.{eqb, leb}
 use borrow.Author.Tests.{eqb-true, eqb-false, leb-true}
 use Rattle.laws.specs.First.{firstNot}
-use Rattle.elements.specs.declared.identifiers.Kind.{Kind}
-use Rattle.elements.specs.Characters.{placeIn, among}
-use Rattle.elements.specs.Identifiers.{measures, table, kindIn, kindOf, spelled, identifiersOf, listed}
+use Rattle.identifiers.specs.declared.Kind.{Kind}
+use Rattle.laws.specs.Among.{placeIn, among}
+use Rattle.identifiers.specs.Identifiers.{measures, table, kindIn, kindOf, spelled, identifiersOf, listed}
 use Rattle.elements.specs.Messages.{ElementString, Right, AllRight, right-more, Different, different-more, closing, IsMessage}
-use Rattle.elements.proofs.AmongLaws.{among-of-nil, among-more, all, all-among}
-use Rattle.elements.proofs.ListedLaws.{listed-if-kind}
+use Rattle.laws.proofs.AmongLaws.{among-of-nil, among-more, all, all-among}
+use Rattle.identifiers.proofs.ListedLaws.{listed-if-kind}
 use Rattle.elements.proofs.PlainLaws.{sound}
 use Rattle.elements.proofs.FromRule.{named}
 use Rattle.elements.proofs.FromRelation.{bytesOf, bytes-most}

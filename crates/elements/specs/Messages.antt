@@ -8,10 +8,11 @@ use mathlib.Core.List.{List, [], _∷_, _++_, map}
 use mathlib.Core.Option.{Option, some, none}
 use lib.ListN.{length, take, drop}
 use Rattle.elements.specs.declared.Element.{Element}
-use Rattle.elements.specs.declared.identifiers.Kind.{Kind}
-use Rattle.elements.specs.Characters.{among, separator}
-use Rattle.elements.specs.Identifiers.{kindOf, spelled}
-use Rattle.elements.specs.Data.{rightData}
+use Rattle.identifiers.specs.declared.Kind.{Kind}
+use Rattle.laws.specs.Among.{among}
+use Rattle.character_set_82.specs.Characters.{separator}
+use Rattle.identifiers.specs.Identifiers.{kindOf, spelled}
+use Rattle.identifiers.specs.Data.{rightData}
 
 pub record ElementString : Type 0 where
   pub identifier : ℕ

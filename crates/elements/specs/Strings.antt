@@ -12,10 +12,11 @@ use Rattle.refusal.specs.declared.Refusal.{Refusal}
 use Rattle.refusal.specs.declared.Refusal.the-variants.{Count, Character, Identifier, Data, Repeated}
 use Rattle.refusal.specs.Outcome.{Outcome, made, refused, _>>=_, _>>_, must}
 use Rattle.elements.specs.declared.Element.{Element}
-use Rattle.elements.specs.declared.identifiers.Kind.{Kind}
-use Rattle.elements.specs.Characters.{among, toSeparator, isMessageByte}
-use Rattle.elements.specs.Identifiers.{kindOf, spelled, identifierIn}
-use Rattle.elements.specs.Data.{rightData}
+use Rattle.identifiers.specs.declared.Kind.{Kind}
+use Rattle.laws.specs.Among.{among}
+use Rattle.character_set_82.specs.Characters.{toSeparator, isMessageByte}
+use Rattle.identifiers.specs.Identifiers.{kindOf, spelled, identifierIn}
+use Rattle.identifiers.specs.Data.{rightData}
 
 abbrev pub given : {A : Type 0} → Option A → Refusal → Outcome A
 given (some a) f = made a

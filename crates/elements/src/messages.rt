@@ -3,7 +3,7 @@ ghost use mathlib.Core.Path.{_≡_};
 ghost use Prim.Native.Nat.{_≤_};
 ghost use lib.ListN.{length};
 ghost use Rattle.refusal.specs.Fills.{answerOf};
-ghost use Rattle.elements.specs.Characters.{among};
+ghost use Rattle.laws.specs.Among.{among};
 ghost use Rattle.elements.specs.Strings.{parsed};
 use crate::Found;
 use refusal::Answer;

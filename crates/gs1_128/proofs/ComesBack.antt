@@ -12,11 +12,11 @@ use Rattle.elements.specs.Strings.{tested}
 use Rattle.elements.specs.Messages.{ElementString, IsMessage}
 use Rattle.elements.proofs.FromRule.{tested-made}
 use Rattle.elements.proofs.Theorems.{strings-of-accepted, accepted-of-strings}
-use Rattle.code128.specs.Spelling.{Spelled}
-use Rattle.code128.specs.Best.{bestSpelling}
-use Rattle.code128.proofs.BestLaws.{best-short, best-long}
-use Rattle.code128.proofs.BestSpelled.{best-is-spelled}
-use Rattle.code128.proofs.Shortest.{none-shorter}
+use Rattle.code_sets.specs.Spelling.{Spelled}
+use Rattle.spelling.specs.Best.{bestSpelling}
+use Rattle.spelling.proofs.BestLaws.{best-short, best-long}
+use Rattle.spelling.proofs.BestSpelled.{best-is-spelled}
+use Rattle.spelling.proofs.Shortest.{none-shorter}
 use Rattle.gs1_128.specs.Symbol.{symbolOf}
 use Rattle.gs1_128.specs.Calls.{messageIn, reads, writes}
 use Rattle.gs1_128.specs.Right.{IsSymbol}

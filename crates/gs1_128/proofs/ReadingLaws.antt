@@ -2,14 +2,14 @@
 -- are known, and put together they are the symbol; of a symbol each line is known to pass.
 use Prim.Native.Nat.{ℕ, suc, _+_, _-_, _*_, _%_, _≤_, _<_}
 use mathlib.Core.Path.{_≡_, refl, sym, ap, ap₂, _∙_, subst}
-use mathlib.Core.Bool.{true, _&&_}
+use mathlib.Core.Bool.{true}
 use mathlib.Core.List.{List, [], _∷_, _++_}
 use mathlib.Core.Logic.{_↔_}
 use native.Mathlib.Omega.{arith}
 use lib.ListN.{length, getD, take, drop, length-drop, take-append-drop}
 use lib.Seq.{take-at, take-all, take-suc, drop-cons, drop-drop, getD-take, getD-drop, getD-at, length-take-le}
-use lib.Dec.{leb, ltb, eqb}
-use borrow.Author.Tests.{le-leb, leb-true, ltb-true, eq-eqb, eqb-true}
+use lib.Dec.{ltb, eqb}
+use borrow.Author.Tests.{le-leb, ltb-true, eq-eqb, eqb-true}
 use Rattle.laws.specs.Below.{Below}
 use Rattle.laws.proofs.BelowLaws.{below-more}
 use Rattle.laws.proofs.Booleans.{both-hold}

@@ -19,7 +19,7 @@ use Rattle.elements.specs.Strings.{parsed, tested}
 use Rattle.patterns.specs.Patterns.{valueIn, characters}
 use Rattle.patterns.proofs.CharacterLaws.{drawn-of-characters}
 use Rattle.code128.specs.Check.{checkOf}
-use Rattle.code128.specs.Reading.{decoded}
+use Rattle.code_sets.specs.Reading.{decoded}
 use Rattle.gs1_128.specs.Symbol.{permitted, countOf, starts, allowed, guarded, startOf, Scanned, scanned}
 use Rattle.gs1_128.specs.Stages.{startIn, valuesIn, textIn}
 use Rattle.gs1_128.specs.Calls.{messageIn, reads}

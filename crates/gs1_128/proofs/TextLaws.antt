@@ -12,13 +12,13 @@ use Rattle.laws.specs.First.{firstNot}
 use Rattle.refusal.specs.Outcome.{Outcome, made, refused, _>>=_}
 use Rattle.refusal.specs.Fills.{laying}
 use Rattle.refusal.proofs.FillsLaws.{laying-made}
-use Rattle.elements.specs.Characters.{isMessageByte}
+use Rattle.character_set_82.specs.Characters.{isMessageByte}
 use Rattle.elements.specs.Strings.{parsed, tested}
-use Rattle.elements.proofs.PlainLaws.{digit-of-82, message-byte, separator-byte}
-use Rattle.code128.specs.Sets.{Set, setA, setB, setC, Meaning, byte, pair, change, shift, separator, illegal, meaningIn, byteIn}
-use Rattle.code128.specs.Spelling.{Spells, ended, a-byte, a-pair, a-shift, a-change, a-separator}
-use Rattle.code128.specs.Reading.{decoded, decodedInto}
-use Rattle.code128.proofs.Theorems.{decoded-as-spelled}
+use Rattle.character_set_82.proofs.CharacterLaws.{digit-of-82, message-byte, separator-byte}
+use Rattle.code_sets.specs.Sets.{Set, setA, setB, setC, Meaning, byte, pair, change, shift, separator, illegal, meaningIn, byteIn}
+use Rattle.code_sets.specs.Spelling.{Spells, ended, a-byte, a-pair, a-shift, a-change, a-separator}
+use Rattle.code_sets.specs.Reading.{decoded, decodedInto}
+use Rattle.code_sets.proofs.Theorems.{decoded-as-spelled}
 
 -- a pair is one of the hundred
 abbrev TwoDigits : Meaning → Type 0

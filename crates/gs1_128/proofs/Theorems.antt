@@ -2,7 +2,7 @@
 -- the scan, the sets and the element strings, agrees with its relation; so a list has one message. And theorem 4 for symbols.
 use Prim.Native.Nat.{ℕ, _+_, _*_, _≤_}
 use mathlib.Core.Path.{_≡_, sym, ap, _∙_, subst}
-use mathlib.Core.List.{List, [], _∷_, map}
+use mathlib.Core.List.{List, _∷_, map}
 use mathlib.Core.Logic.{_↔_}
 use native.Mathlib.Omega.{arith}
 use lib.ListN.{length}
@@ -14,12 +14,10 @@ use Rattle.refusal.proofs.FillsLaws.{laying-made, made-of-laying}
 use Rattle.elements.specs.declared.Element.{Element}
 use Rattle.elements.specs.Strings.{parsed, tested}
 use Rattle.elements.specs.Messages.{IsMessage, stringOf}
-use Rattle.elements.specs.Adding.{addedAll}
 use Rattle.elements.proofs.FromRule.{message-of-parsed, tested-made}
-use Rattle.elements.proofs.Theorems.{strings-of-accepted, accepted-of-strings, one-splitting}
-use Rattle.elements.proofs.AddedStrings.{rebuilt, rebuilt-from-split}
-use Rattle.code128.specs.Reading.{decoded}
-use Rattle.code128.proofs.Theorems.{decoded-as-spelled}
+use Rattle.elements.proofs.Theorems.{accepted-of-strings, one-splitting}
+use Rattle.code_sets.specs.Reading.{decoded}
+use Rattle.code_sets.proofs.Theorems.{decoded-as-spelled}
 use Rattle.gs1_128.specs.Symbol.{scanned}
 use Rattle.gs1_128.specs.Calls.{messageIn, reads}
 use Rattle.gs1_128.specs.Right.{IsSymbol}
@@ -27,7 +25,7 @@ pub use Rattle.gs1_128.proofs.SymbolLaws.{length-of-symbol}
 pub use Rattle.gs1_128.proofs.ReadingLaws.{IsDrawn, scanned-as-drawn, one-spelling}
 
 -- what is read is a right symbol
-symbol-of-read : (widths message : List ℕ) → messageIn widths ≡ made message → IsSymbol widths message
+pub symbol-of-read : (widths message : List ℕ) → messageIn widths ≡ made message → IsSymbol widths message
 unfolding messageIn
 symbol-of-read widths message o =
     let a = bind-made (scanned widths) _ message o in
@@ -96,18 +94,7 @@ length-of-right s =
 pub split-of-symbol : {widths message : List ℕ} (s : IsSymbol widths message) → (elements : List Element) × (tested message ≡ made elements) × (map (stringOf message) elements ≡ s .strings)
 split-of-symbol {message = message} s = accepted-of-strings message (s .strings) (s .right)
 
--- .. which are the only ones that the list has, ..
+-- .. which are the only ones that the list has
 pub one-contents : {widths message message′ : List ℕ} (s : IsSymbol widths message) (s′ : IsSymbol widths message′) → s .strings ≡ s′ .strings
 one-contents {message = message} s s′ =
     one-splitting message (s .strings) (s′ .strings) (s .right) (subst (λ (text : List ℕ). IsMessage text (s′ .strings)) (sym (one-message s s′)) (s′ .right))
-
--- .. and these, added one by one to a fresh buffer, are the message again
-pub rebuilt-symbol : {widths message : List ℕ} (s : IsSymbol widths message) → addedAll [] (s .strings) ≡ made message
-rebuilt-symbol {message = message} s = rebuilt message (s .strings) (s .right)
-
--- the same from what reading gave, with the strings that the test of the message finds
-pub rebuilt-from-read : (widths message : List ℕ) → messageIn widths ≡ made message → (elements : List Element) × (tested message ≡ made elements) × IsMessage message (map (stringOf message) elements) × (addedAll [] (map (stringOf message) elements) ≡ made message)
-rebuilt-from-read widths message o =
-    let s = symbol-of-read widths message o in
-    let t = split-of-symbol s in
-    (t .0, t .1, strings-of-accepted message (t .0) (t .1), rebuilt-from-split message (t .0) (t .1))

@@ -15,10 +15,10 @@ use Rattle.elements.specs.Strings.{tested}
 use Rattle.elements.proofs.FromRule.{Accepted}
 use Rattle.patterns.specs.Patterns.{drawn}
 use Rattle.code128.specs.Characters.{patterns, stop}
-use Rattle.code128.specs.Best.{bestSpelling}
-use Rattle.code128.specs.Spelling.{Spelled}
-use Rattle.code128.proofs.BestLaws.{best-short}
-use Rattle.code128.proofs.BestSpelled.{best-is-spelled}
+use Rattle.spelling.specs.Best.{bestSpelling}
+use Rattle.code_sets.specs.Spelling.{Spelled}
+use Rattle.spelling.proofs.BestLaws.{best-short}
+use Rattle.spelling.proofs.BestSpelled.{best-is-spelled}
 use Rattle.gs1_128.specs.Symbol.{checked, symbolOf}
 use Rattle.gs1_128.specs.Calls.{writes}
 use Rattle.gs1_128.proofs.CheckedLaws.{below-checked}

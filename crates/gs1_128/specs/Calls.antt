@@ -5,9 +5,9 @@ use mathlib.Core.List.{List}
 use Rattle.refusal.specs.Outcome.{Outcome, made, _>>=_, _>>_}
 use Rattle.refusal.specs.Fills.{laying}
 use Rattle.elements.specs.Strings.{parsed, tested}
-use Rattle.code128.specs.Reading.{decoded}
-use Rattle.code128.specs.Best.{bestSpelling}
-use Rattle.gs1_128.specs.Symbol.{Scanned, symbolOf, scanned}
+use Rattle.code_sets.specs.Reading.{decoded}
+use Rattle.spelling.specs.Best.{bestSpelling}
+use Rattle.gs1_128.specs.Symbol.{symbolOf, scanned}
 
 -- the message that a list of widths holds
 unfoldable pub messageIn : List ℕ → Outcome (List ℕ)

@@ -9,9 +9,7 @@
 --   textIn                Stages   what the reader's stages make of widths
 --   allowedMatch          Stages   what the matcher answers after the start
 --   IsSymbol              Right    what a right symbol of a message is, as a relation
---   Damaged               Damage   what is left of a right symbol after one damage of demand 3, as a relation
 pub mod Symbol
 pub mod Calls
 pub mod Stages
 pub mod Right
-pub mod Damage

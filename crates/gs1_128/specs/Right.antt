@@ -6,8 +6,8 @@ use mathlib.Core.List.{List, _∷_}
 use lib.ListN.{length}
 use Rattle.laws.specs.Below.{Below}
 use Rattle.elements.specs.Messages.{ElementString, IsMessage}
-use Rattle.code128.specs.Spelling.{Spells}
-use Rattle.code128.specs.Reading.{startSet}
+use Rattle.code_sets.specs.Spelling.{Spells}
+use Rattle.code_sets.specs.Reading.{startSet}
 use Rattle.gs1_128.specs.Symbol.{symbolOf}
 
 pub record IsSymbol (widths message : List ℕ) : Type 0 where

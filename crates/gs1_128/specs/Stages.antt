@@ -10,7 +10,7 @@ use Rattle.patterns.specs.Patterns.{characters}
 use Rattle.code128.specs.declared.characters.Match.{Match}
 use Rattle.code128.specs.declared.characters.Match.the-variants.{Value, Nothing}
 use Rattle.code128.specs.Check.{checkOf}
-use Rattle.code128.specs.Reading.{decoded}
+use Rattle.code_sets.specs.Reading.{decoded}
 use Rattle.gs1_128.specs.Symbol.{countOf, allowed, guarded, startOf}
 
 -- refusal 4: the start

@@ -6,10 +6,10 @@ ghost use lib.ListN.{length, take};
 ghost use Rattle.laws.specs.First.{firstNot};
 ghost use Rattle.laws.specs.Below.{Below};
 ghost use Rattle.refusal.specs.Fills.{Fills, laying};
-ghost use Rattle.elements.specs.Characters.{isMessageByte};
+ghost use Rattle.character_set_82.specs.Characters.{isMessageByte};
 ghost use Rattle.patterns.specs.Patterns.{drawn};
 ghost use Rattle.code128.specs.Characters.{patterns, stop};
-ghost use Rattle.code128.specs.Best.{bestSpelling};
+ghost use Rattle.spelling.specs.Best.{bestSpelling};
 ghost use Rattle.gs1_128.specs.Symbol.{checked};
 use crate::Gs1128;
 use refusal::Answer;
@@ -23,7 +23,7 @@ pub fn characters_of(message: &[u8], characters: &mut [u8]) -> usize
     ensures { λ r. ⌜ r ≡ length (checked (bestSpelling (now (message .entry)))) ⌝ }
     ensures { λ r. ⌜ take r (now (characters .exit)) ≡ checked (bestSpelling (now (message .entry))) ⌝ }
 {
-    let count = code128::spelling::spell(message, &mut characters[0..50]);
+    let count = spelling::spell(message, &mut characters[0..50]);
     let check = code128::check::check_of(characters[0] as usize, &characters[1..count]);
     characters[count] = check as u8;
     count + 1

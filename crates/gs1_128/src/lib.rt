@@ -139,6 +139,6 @@ impl Gs1128 {
         let Answer::Done(_) = scanned else {
             return scanned;
         };
-        code128::text_of(start, &values[1..count], text)
+        code_sets::text_of(start, &values[1..count], text)
     }
 }

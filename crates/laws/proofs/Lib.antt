@@ -1,4 +1,5 @@
 -- General laws, each proved once. What the kit has already (its list, number and test laws) is cited from there.
+pub mod AmongLaws
 pub mod BelowLaws
 pub mod Booleans
 pub mod Copying

@@ -5,8 +5,13 @@
 --   sum        Sum       the sum of a list
 --   weighed    Weighed   a sum in which each element has a weight by its distance from the right end
 --   Below      Below     every element of a list is below a bound
+--   run        Run       numbers in order
+--   placeIn    Among     the place of a number in a list
+--   among      Among     whether it is one of them
 pub mod First
 pub mod Below
 pub mod Packed
 pub mod Sum
 pub mod Weighed
+pub mod Run
+pub mod Among

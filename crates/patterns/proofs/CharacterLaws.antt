@@ -2,10 +2,9 @@
 -- scanned, gives back what there was, a character at a time.
 use Prim.Native.Nat.{ℕ, zero, suc, _+_, _-_, _*_, _<_}
 use mathlib.Core.Path.{_≡_, refl, sym, ap, ap₂, _∙_, subst}
-use mathlib.Core.Bool.{Bool, true, false}
+use mathlib.Core.Bool.{Bool}
 use mathlib.Core.List.{List, [], _∷_, _++_, append-assoc}
-use native.Mathlib.Nat.{add-zero, add-suc, suc-add, mul-suc, mul-zero, mul-one, mul-add, add-comm, sub-self, sub-zero}
-use native.Mathlib.Numerals.{add-one}
+use native.Mathlib.Nat.{add-zero, mul-suc, mul-zero, mul-one, mul-add, add-comm, sub-self, sub-zero}
 use native.Mathlib.Omega.{arith}
 use lib.ListN.{length, getD, take, drop, length-append}
 use lib.Seq.{take-at, drop-at, drop-drop, take-add}
@@ -15,7 +14,7 @@ use Rattle.laws.specs.Below.{Below}
 use Rattle.laws.proofs.BelowLaws.{below-of-nil, below-more, below-first, below-rest}
 use Rattle.laws.proofs.Tables.{every, at-entry}
 use Rattle.refusal.specs.declared.Refusal.the-variants.{Pattern}
-use Rattle.refusal.specs.Outcome.{Outcome, made, refused, _>>=_, _>>_, must}
+use Rattle.refusal.specs.Outcome.{Outcome, made, refused, _>>=_, _>>_}
 use Rattle.refusal.proofs.OutcomeLaws.{made-same, must-made, bind-made}
 use Rattle.patterns.specs.Patterns.{valueIn, drawn, characters}
 use Rattle.patterns.proofs.PatternLaws.{pattern-at, distinct, value-at}

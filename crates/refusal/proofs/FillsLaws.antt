@@ -11,7 +11,7 @@ use Rattle.refusal.specs.declared.Answer.the-variants.{Done, Refused}
 use Rattle.refusal.specs.declared.Refusal.{Refusal}
 use Rattle.refusal.specs.declared.Refusal.the-variants.{Room}
 use Rattle.refusal.specs.Outcome.{Outcome, made, refused}
-use Rattle.refusal.specs.Fills.{answered, answerOf, laid, Fills, laying}
+use Rattle.refusal.specs.Fills.{answered, answerOf, Fills, laying}
 use Rattle.refusal.proofs.OutcomeLaws.{must-made, made-same}
 
 -- an answer that is a number

@@ -1,21 +1,7 @@
 -- Document 01, "Refusal numbers": each refusal's number, and its place. "The place is 0 unless the table says otherwise."
 use Prim.Native.Nat.{ℕ}
 use Rattle.refusal.specs.declared.Refusal.{Refusal}
-use Rattle.refusal.specs.declared.Refusal.the-variants.{
-  Count,
-  Character,
-  CheckDigit,
-  Guard,
-  Pattern,
-  CheckCharacter,
-  FirstCharacter,
-  Sequence,
-  Identifier,
-  Data,
-  Repeated,
-  Room,
-  Absent,
-}
+use Rattle.refusal.specs.declared.Refusal.the-variants.{Count, Character, CheckDigit, Guard, Pattern, CheckCharacter, FirstCharacter, Sequence, Identifier, Data, Repeated, Room, Absent}
 
 abbrev pub numberOf : Refusal → ℕ
 numberOf Count = 1

@@ -16,15 +16,16 @@ use Rattle.ean.specs.Ean13.{writes13, reads13, symbol13, guarded13, scanned13}
 use Rattle.ean.specs.Ean8.{writes8, reads8, symbol8, guarded8, scanned8}
 use Rattle.itf.specs.Tables.{pairs}
 use Rattle.itf.specs.Itf14.{writes14, reads14, symbol14, guarded14, scanned14}
-use Rattle.elements.specs.Characters.{placeIn, eightyTwo, isOf82, toSeparator, isMessageByte}
-use Rattle.elements.specs.Identifiers.{measures, table, kindIn, kindOf as rowKind, spelled, firstOf, identifiersOf, listed, identifierIn}
-use Rattle.elements.specs.Data.{isDate, isNumber, passes, rightData}
+use Rattle.laws.specs.Among.{placeIn}
+use Rattle.character_set_82.specs.Characters.{eightyTwo, isOf82, toSeparator, isMessageByte}
+use Rattle.identifiers.specs.Identifiers.{measures, table, kindIn, kindOf as rowKind, spelled, firstOf, identifiersOf, listed, identifierIn}
+use Rattle.identifiers.specs.Data.{isDate, isNumber, passes, rightData}
 use Rattle.elements.specs.Strings.{dataOf, nextAfter, elementOf, stringAt, stringsFrom, parsed, tested}
-use Rattle.code128.specs.Sets.{meaningIn}
-use Rattle.code128.specs.Reading.{stepIn, spells, decoded}
+use Rattle.code_sets.specs.Sets.{meaningIn}
+use Rattle.code_sets.specs.Reading.{stepIn, spells, decoded}
 use Rattle.code128.specs.Characters.{patterns}
 use Rattle.code128.specs.Check.{placed, checkOf}
-use Rattle.code128.specs.Best.{comesFirst, better, bests, bestSpelling}
+use Rattle.spelling.specs.Best.{comesFirst, better, bests, bestSpelling}
 use Rattle.gs1_128.specs.Symbol.{checked, symbolOf, guarded, scanned}
 use Rattle.gs1_128.specs.Calls as Gs1
 use Rattle.symbols.specs.declared.Kind.{Kind}

@@ -2,5 +2,4 @@
 pub mod KindLaws
 pub mod Theorems
 pub mod ReadingLaws
-pub mod Damage
 pub mod Examples

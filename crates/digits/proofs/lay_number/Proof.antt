@@ -1,8 +1,7 @@
 -- `digits::lay_number` meets its promise: a number of digits is refused by its check digit alone, and its bytes are what `lay` lays.
 use Prim.Native.Nat.{ℕ}
-use mathlib.Core.Path.{_≡_, refl, sym, ap, _∙_}
+use mathlib.Core.Path.{_≡_, sym, ap, _∙_}
 use mathlib.Core.List.{List, map}
-use native.Mathlib.Omega.{arith}
 use borrow.Author.Needs.{needs}
 use lib.ListN.{length}
 use Rattle.refusal.specs.declared.Answer.the-variants.{Refused}

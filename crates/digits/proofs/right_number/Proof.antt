@@ -1,7 +1,7 @@
 -- `digits::right_number` meets its contract: the tests that led to each `return` are those of the rule's lines; the number before its
 -- last digit is digits too, so its weighed sum can be taken.
-use Prim.Native.Nat.{ℕ, _+_, _-_, _%_, _≤_, _<_}
-use mathlib.Core.Path.{_≡_, refl, sym, ap, ap₂, _∙_}
+use Prim.Native.Nat.{ℕ, _+_, _-_, _%_}
+use mathlib.Core.Path.{_≡_, sym, ap, ap₂, _∙_}
 use mathlib.Core.List.{List, map}
 use native.Mathlib.Omega.{arith}
 use lib.ListN.{length, getD, take, length-take, length-map, List·getD-map}

@@ -10,12 +10,13 @@ use borrow.Author.Needs.{needs}
 use borrow.Author.Tests.{not-true, not-false}
 use lib.ListN.{length, take, drop, length-drop}
 use Rattle.elements.specs.declared.Found.the-variants.{String}
-use Rattle.elements.specs.declared.identifiers.Kind.{Kind}
-use Rattle.elements.specs.Identifiers.{kindOf, spelled, identifierIn}
-use Rattle.elements.specs.Data.{rightData}
+use Rattle.identifiers.specs.declared.Kind.{Kind}
+use Rattle.identifiers.specs.Identifiers.{kindOf, spelled, identifierIn}
+use Rattle.identifiers.specs.Data.{rightData}
 use Rattle.elements.specs.Strings.{dataOf}
-use Rattle.elements.specs.Calls.{rowAt, foundOf}
-use Rattle.elements.proofs.DataLaws.{sized-if-listed}
+use Rattle.identifiers.specs.Rows.{rowAt}
+use Rattle.elements.specs.Calls.{foundOf}
+use Rattle.identifiers.proofs.DataLaws.{sized-if-listed}
 use Rattle.elements.proofs.StringLaws.{data-within, data-part, row-listed, rest-of, string-unlisted, begin-within, string-wrong, string-right, element-is}
 use Rattle.elements.proofs.string_at.Statement.{statement}
 use Rattle.elements.proofs.string_at.Tie as tie

@@ -9,7 +9,7 @@ use Rattle.laws.specs.First.{firstNot}
 use Rattle.laws.proofs.FirstLaws.{first-within}
 use Rattle.refusal.specs.declared.Answer.the-variants.{Refused}
 use Rattle.refusal.specs.declared.Refusal.the-variants.{Character}
-use Rattle.elements.specs.Characters.{isMessageByte}
+use Rattle.character_set_82.specs.Characters.{isMessageByte}
 use Rattle.elements.specs.Strings.{tested}
 use Rattle.elements.proofs.test.Statement.{statement}
 use Rattle.elements.proofs.test.Tie as tie

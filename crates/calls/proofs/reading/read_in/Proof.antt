@@ -1,10 +1,10 @@
 -- `calls::reading::read_in` is safe: the widths lie within the list made for them, the number within the places lent.
-use Prim.Native.Nat.{ℕ, _≤_}
-use mathlib.Core.Path.{sym, subst}
+use Prim.Native.Nat.{_≤_}
+use mathlib.Core.Path.{subst}
 use native.Mathlib.Omega.{arith}
 use lib.ListN.{length}
 use borrow.Author.Needs.{needs}
-use Rattle.calls.specs.Places.{Filled, Counted}
+use Rattle.calls.specs.Places.{Counted}
 use Rattle.calls.specs.declared.widths.Widths.{Widths}
 use Rattle.calls.proofs.reading.read_in.Statement.{statement}
 use Rattle.calls.proofs.reading.read_in.Tie as tie

@@ -13,7 +13,7 @@ use lib.Seq.{take-suc-set}
 use Rattle.refusal.specs.Outcome.{made, refused}
 use Rattle.refusal.specs.Fills.{answerOf}
 use Rattle.elements.specs.declared.Element.{Element}
-use Rattle.elements.specs.Characters.{among}
+use Rattle.laws.specs.Among.{among}
 use Rattle.elements.specs.Strings.{stringAt, stringsFrom, parsed}
 use Rattle.elements.proofs.StringLaws.{next-within}
 use Rattle.elements.proofs.CountLaws.{counted, counted-none, found-string, found-refused, from-refused, from-repeated, from-last, from-more}

@@ -11,7 +11,7 @@ use borrow.Author.Needs.{needs}
 use borrow.Author.Tests.{eq-eqb, ne-eqb, lt-ltb, le-ltb}
 use Rattle.laws.specs.First.{firstNot}
 use Rattle.laws.proofs.FirstLaws.{first-of-nil, first-stops, first-goes}
-use Rattle.elements.specs.Characters.{placeIn}
+use Rattle.laws.specs.Among.{placeIn}
 use Rattle.elements.proofs.messages.is_among.Statement.{statement}
 use Rattle.elements.proofs.messages.is_among.Tie as tie
 

@@ -11,7 +11,7 @@ use Rattle.refusal.specs.declared.Answer.the-variants.{Refused}
 use Rattle.refusal.specs.Outcome.{made}
 use Rattle.refusal.proofs.FillsLaws.{refused-of-answer}
 use Rattle.refusal.proofs.OwnLaws.{own-passed, own-of-fills, own-made}
-use Rattle.code128.specs.Reading.{decoded, decodedInto}
+use Rattle.code_sets.specs.Reading.{decoded, decodedInto}
 use Rattle.gs1_128.specs.Symbol.{countOf}
 use Rattle.gs1_128.specs.Stages.{valuesIn, textIn}
 use Rattle.gs1_128.proofs.TextLaws.{decoded-into-48}

@@ -15,7 +15,7 @@ use Rattle.elements.specs.Strings.{tested}
 use Rattle.elements.proofs.FromRule.{Accepted, tested-made}
 use Rattle.patterns.specs.Patterns.{drawn}
 use Rattle.code128.specs.Characters.{patterns, stop}
-use Rattle.code128.specs.Best.{bestSpelling}
+use Rattle.spelling.specs.Best.{bestSpelling}
 use Rattle.gs1_128.specs.Symbol.{checked}
 use Rattle.gs1_128.proofs.WrittenLaws.{write-refused, write-made, characters-have-patterns, characters-are-few, symbol-of-best}
 use Rattle.gs1_128.proofs.Gs1128.write.Statement.{statement}

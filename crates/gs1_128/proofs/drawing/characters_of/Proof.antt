@@ -6,12 +6,12 @@ use mathlib.Core.List.{List, _∷_, _++_, append-assoc}
 use native.Mathlib.Omega.{arith}
 use lib.ListN.{length, getD, set, take, drop, length-append, length-take, length-drop}
 use borrow.Author.Needs.{needs}
-use Rattle.code128.specs.Best.{bestSpelling}
+use Rattle.spelling.specs.Best.{bestSpelling}
 use Rattle.code128.specs.Check.{checkOf}
-use Rattle.code128.specs.Spelling.{Spelled}
+use Rattle.code_sets.specs.Spelling.{Spelled}
 use Rattle.code128.proofs.CheckLaws.{check-below}
-use Rattle.code128.proofs.BestLaws.{best-short}
-use Rattle.code128.proofs.BestSpelled.{best-is-spelled}
+use Rattle.spelling.proofs.BestLaws.{best-short}
+use Rattle.spelling.proofs.BestSpelled.{best-is-spelled}
 use Rattle.gs1_128.specs.Symbol.{checked}
 use Rattle.gs1_128.proofs.WithCheckLaws.{first-is, values-are, length-checked, check-added}
 use Rattle.gs1_128.proofs.drawing.characters_of.Statement.{statement}

@@ -1,7 +1,7 @@
 -- `gs1_128::drawing::draw` meets its promise: the room is tested before the first store, and then the characters and the stop fill as many
 -- places as they have widths.
 use Prim.Native.Nat.{ℕ, _+_, _-_, _*_}
-use mathlib.Core.Path.{_≡_, sym, ap, ap₂, _∙_}
+use mathlib.Core.Path.{sym, ap, ap₂, _∙_}
 use mathlib.Core.List.{List, _++_}
 use native.Mathlib.Omega.{arith}
 use lib.ListN.{length, drop, length-take}

@@ -1,0 +1,130 @@
+-- `adding::judging::closing_of` meets its contract: the strings passed have other identifiers, so whether the new one was used, and what
+-- closes the message, is told by the strings that are left.
+use Prim.Native.Nat.{ℕ, _+_, _-_, _≤_}
+use mathlib.Core.Path.{_≡_, refl, sym, ap, _∙_}
+use mathlib.Core.Bool.{false}
+use mathlib.Core.List.{List, []}
+use native.Mathlib.Omega.{arith}
+use borrow.Author.Needs.{needs}
+use lib.ListN.{length}
+use Rattle.refusal.specs.Outcome.{made, refused}
+use Rattle.refusal.specs.Fills.{answered}
+use Rattle.refusal.proofs.OutcomeLaws.{made-same}
+use Rattle.elements.specs.declared.Element.{Element}
+use Rattle.adding.specs.Judging.{unusedIn}
+use Rattle.elements.specs.Strings.{stringAt}
+use Rattle.elements.specs.Messages.{closing}
+use Rattle.adding.specs.Adding.{sofar}
+use Rattle.laws.proofs.AmongLaws.{among-of-nil}
+use Rattle.elements.proofs.StringLaws.{next-within}
+use Rattle.elements.proofs.CountLaws.{found-string, found-refused}
+use Rattle.adding.proofs.AddLaws.{sofar-none, sofar-from, next-closing, Passed, passed-refused, passed-used, passed-last, passed-more}
+use Rattle.adding.proofs.judging.closing_of.Statement.{statement}
+use Rattle.adding.proofs.judging.closing_of.Tie as tie
+
+abbrev Inv-loop : tie.InvT-loop
+Inv-loop old identifier at₀ at =
+    (at ≤ length old) × ((strings : List Element) → sofar old ≡ made strings → Passed old identifier at strings)
+
+abbrev μ-loop : tie.MeasureT-loop
+μ-loop old identifier at₀ at = length old - at
+
+returns : tie.Need-returns Inv-loop μ-loop
+unfolding unusedIn
+returns c =
+    λ strings e.
+    let none : made [] ≡ made strings = rw (sofar-none (c .before .before .args .old .now) (c .if1 .taken)) at e in
+    rw (← made-same [] strings none, among-of-nil (c .before .before .args .identifier))
+
+loop-holds : tie.Need-loop-holds Inv-loop μ-loop
+loop-holds c =
+    (omega arith, λ strings e. record { rest = strings; from = sofar-from (c .before .before .args .old .now) strings (omega arith) e; same = λ size. refl })
+
+string-at-requires : tie.Need-string-at-requires Inv-loop μ-loop
+string-at-requires c κs = c .loop .inv .0
+
+enum-known-found : tie.Need-enum-known-found Inv-loop μ-loop
+enum-known-found c = search needs
+
+enum-known-found-2 : tie.Need-enum-known-found-2 Inv-loop μ-loop
+enum-known-found-2 c = search needs
+
+returns-2 : tie.Need-returns-2 Inv-loop μ-loop
+returns-2 c =
+    let loop = c .before .before .before .before .loop in
+    let message = c .before .before .before .before .before .before .before .args .old .now in
+    let x = c .before .before .before .before .before .before .before .args .identifier in
+    let f = c .before .found2 .given .0 .0 in
+    let here : stringAt message (loop .at) ≡ refused f = found-refused (stringAt message (loop .at)) f (sym (c .before .found2 .given .1) ∙ c .before .before .before .string-at .ensures) in
+    λ strings e. absurd (passed-refused message x (loop .at) strings (loop .inv .1 strings e) f here)
+
+-- a string was found
+module _ (c : tie.After-found Inv-loop μ-loop) where
+  abbrev message : List ℕ
+  message = c .before .before .before .before .before .before .args .old .now
+
+  abbrev x : ℕ
+  x = c .before .before .before .before .before .before .args .identifier
+
+  abbrev at : ℕ
+  at = c .before .before .before .loop .at
+
+  abbrev string : Element
+  string = c .found .given .0 .0
+
+  here : stringAt message at ≡ made string
+  here = found-string (stringAt message at) string (sym (c .found .given .1) ∙ c .before .before .string-at .ensures)
+
+  left : (strings : List Element) → sofar message ≡ made strings → Passed message x at strings
+  left = c .before .before .before .loop .inv .1
+
+  bounds : string .last ≡ false → (string .next ≤ length message) × (at + 4 ≤ string .next)
+  bounds goes = next-within message at string (c .before .before .before .loop .inv .0) here goes
+
+-- where the next string would begin
+ends-at : (c : tie.After-found Inv-loop μ-loop) → string c .next ≡ string c .begin + string c .length + length (closing (string c .identifier))
+ends-at c = next-closing (message c) (at c) (string c) (here c)
+
+returns-3 : tie.Need-returns-3 Inv-loop μ-loop
+returns-3 c =
+    let f = c .before .before .before in
+    λ strings e. sym (ap answered (passed-used (message f) (x f) (at f) strings (left f strings e) (string f) (here f) (c .if2 .taken) (length (message f))))
+
+sub-t14 : tie.Need-sub-t14 Inv-loop μ-loop
+sub-t14 c = omega (arith, ends-at (c .before .before .before .before .before))
+
+sub-t15 : tie.Need-sub-t15 Inv-loop μ-loop
+sub-t15 c = omega (arith, ends-at (c .before .before .before .before .before .before))
+
+returns-4 : tie.Need-returns-4 Inv-loop μ-loop
+returns-4 c =
+    let f = c .before .before .before .before .before .before in
+    let size : string f .next - string f .begin - string f .length ≡ length (closing (string f .identifier)) = omega (arith, ends-at f) in
+    λ strings e. rw size (sym (ap answered (passed-last (message f) (x f) (at f) strings (left f strings e) (string f) (here f) (c .before .before .before .if2 .left) (c .before .before .if3 .taken) (length (message f)))))
+
+loop-less : tie.Need-loop-less Inv-loop μ-loop
+loop-less c = omega (arith, bounds (c .before .before .before .before) (c .if3 .left))
+
+loop-again : tie.Need-loop-again Inv-loop μ-loop
+loop-again c =
+    let f = c .before .before .before .before in
+    (bounds f (c .if3 .left) .0, λ strings e. passed-more (message f) (x f) (at f) strings (left f strings e) (string f) (here f) (c .before .if2 .left) (c .if3 .left))
+
+pub closing-of-spec : {M : Type 1} → statement M
+closing-of-spec =
+    tie.close
+    (tie.spec
+    Inv-loop
+    μ-loop
+    returns
+    loop-holds
+    string-at-requires
+    enum-known-found
+    enum-known-found-2
+    returns-2
+    returns-3
+    sub-t14
+    sub-t15
+    returns-4
+    loop-less
+    loop-again)

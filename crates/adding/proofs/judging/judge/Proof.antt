@@ -1,0 +1,193 @@
+-- `adding::judging::judge` meets its contract: each step finds what a line of the rule asks, so each `return` is what the lines come to.
+use Prim.Native.Nat.{ℕ, _≤_}
+use mathlib.Core.Path.{_≡_, sym, ap, _∙_}
+use mathlib.Core.Bool.{true}
+use mathlib.Core.List.{List}
+use mathlib.Core.Option.{some}
+use native.Mathlib.Omega.{arith}
+use borrow.Author.Needs.{needs}
+use borrow.Author.Tests.{not-true, not-false}
+use lib.ListN.{length}
+use Rattle.refusal.specs.Outcome.{made}
+use Rattle.refusal.specs.Fills.{answered}
+use Rattle.refusal.proofs.FillsLaws.{refused-of-answered, made-of-answered, refused-of-answer, made-of-answer}
+use Rattle.elements.specs.declared.Element.{Element}
+use Rattle.identifiers.specs.declared.Kind.{Kind}
+use Rattle.identifiers.specs.Identifiers.{kindOf, spelled}
+use Rattle.identifiers.specs.Data.{rightData}
+use Rattle.adding.specs.Adding.{sofar}
+use Rattle.adding.specs.Judging.{unusedIn}
+use Rattle.identifiers.proofs.DataLaws.{sized-if-listed}
+use Rattle.identifiers.proofs.DecisionLaws.{spelling-of}
+use Rattle.identifiers.proofs.ListedLaws.{listed-if-kind}
+use Rattle.adding.proofs.AddLaws.{unused-short, kind-of-row, no-kind-of-row, judged-old, judged-unlisted, judged-wrong, judged-used, judged-over, judged-made}
+use Rattle.adding.proofs.judging.judge.Statement.{statement}
+use Rattle.adding.proofs.judging.judge.Tie as tie
+
+test-old-requires : tie.Need-test-old-requires
+test-old-requires c κs = search needs
+
+enum-told : tie.Need-enum-told
+enum-told c = search needs
+
+enum-told-2 : tie.Need-enum-told-2
+enum-told-2 c = search needs
+
+returns : tie.Need-returns
+returns c =
+    let args = c .before .before .before .before .before .args in
+    let is = c .enum-told2 .given .1 in
+    is ∙ sym (ap answered (judged-old (args .old .now) (args .identifier) (args .content .now) _ (refused-of-answer (sofar (args .old .now)) _ (sym is ∙ c .before .before .test-old .ensures))))
+
+-- the strings so far are known
+module _ (c : tie.After-enum-told) where
+  abbrev old : List ℕ
+  old = c .before .before .before .before .before .args .old .now
+
+  abbrev x : ℕ
+  x = c .before .before .before .before .before .args .identifier
+
+  abbrev content : List ℕ
+  content = c .before .before .before .before .before .args .content .now
+
+  tested-old : (strings : List Element) × (sofar old ≡ made strings) × (length strings ≡ c .enum-told .given .0 .0)
+  tested-old = made-of-answer (sofar old) (c .enum-told .given .0 .0) (sym (c .enum-told .given .1) ∙ c .before .before .test-old .ensures)
+
+  strings : List Element
+  strings = tested-old .0
+
+  right : sofar old ≡ made strings
+  unfolding strings
+  right = tested-old .1
+
+row-of-requires : tie.Need-row-of-requires
+row-of-requires c κs = search needs
+
+enum-known-kind : tie.Need-enum-known-kind
+enum-known-kind c = search needs
+
+enum-told-3 : tie.Need-enum-told-3
+enum-told-3 c = search needs
+
+returns-2 : tie.Need-returns-2
+returns-2 c =
+    let a = c .before .before .before in
+    sym (ap answered (judged-unlisted (old a) (x a) (content a) (strings a) (right a) (no-kind-of-row (x a) (sym (c .before .before .row-of .ensures) ∙ c .enum-told3 .given .1))))
+
+-- the kind is known
+module _ (c : tie.After-kind) where
+  abbrev so-far : tie.After-enum-told
+  so-far = c .before .before .before
+
+  abbrev kind : Kind
+  kind = c .kind .given .0 .1 .0
+
+  listed : kindOf (x so-far) ≡ some kind
+  listed = kind-of-row (x so-far) (c .kind .given .0 .0) kind (sym (c .before .before .row-of .ensures) ∙ c .kind .given .1)
+
+right-data-requires : tie.Need-right-data-requires
+right-data-requires c κs = sized-if-listed (x (so-far (c .before))) (kind (c .before)) (listed (c .before))
+
+returns-3 : tie.Need-returns-3
+returns-3 c =
+    let k = c .before .before .before in
+    let a = so-far k in
+    sym (ap answered (judged-wrong (old a) (x a) (content a) (strings a) (right a) (kind k) (listed k) (sym (c .before .right-data .ensures) ∙ not-true _ (c .if1 .taken))))
+
+-- the data is right
+good : (c : tie.Else1) → rightData (kind (c .before .before .before)) (content (so-far (c .before .before .before))) ≡ true
+good c = sym (c .before .right-data .ensures) ∙ not-false _ (c .if1 .left)
+
+closing-of-requires : tie.Need-closing-of-requires
+closing-of-requires c κs = search needs
+
+enum-known-unused : tie.Need-enum-known-unused
+enum-known-unused c = search needs
+
+enum-told-4 : tie.Need-enum-told-4
+enum-told-4 c = search needs
+
+returns-4 : tie.Need-returns-4
+returns-4 c =
+    let e = c .before .before .before in
+    let k = e .before .before .before in
+    let a = so-far k in
+    let is = c .enum-told4 .given .1 in
+    is ∙ sym (ap answered (judged-used (old a) (x a) (content a) (strings a) (right a) (kind k) (listed k) (good e) _ (refused-of-answered _ _ (sym is ∙ c .before .before .closing-of .ensures (strings a) (right a)))))
+
+-- what stands before the new string is known
+module _ (c : tie.After-unused) where
+  abbrev went-on : tie.Else1
+  went-on = c .before .before .before
+
+  abbrev known : tie.After-kind
+  known = went-on .before .before .before
+
+  abbrev start : tie.After-enum-told
+  start = so-far known
+
+  abbrev count : ℕ
+  count = c .unused .given .0 .0
+
+  unused : unusedIn (strings start) (x start) (length (old start)) ≡ made count
+  unused = made-of-answered _ count (sym (c .unused .given .1) ∙ c .before .before .closing-of .ensures (strings start) (right start))
+
+  short : count ≤ 1
+  short = unused-short (strings start) (x start) (length (old start)) count unused
+
+  digits : length (spelled (x start)) ≤ 4
+  digits = spelling-of (x start) (listed-if-kind (x start) (kind known) (listed known)) .four
+
+  few : length (old start) ≤ 48
+  few = start .before .before .before .before .before .pre
+
+add-end : tie.Need-add-end
+add-end c = omega (arith, short (c .before), few (c .before))
+
+digits-of-requires : tie.Need-digits-of-requires
+digits-of-requires c κs = search needs
+
+add-end-2 : tie.Need-add-end-2
+add-end-2 c = omega (arith, short (c .before .before), few (c .before .before), digits (c .before .before), c .digits-of .ensures)
+
+add-if2 : tie.Need-add-if2
+add-if2 c = omega (arith, short (c .before .before), few (c .before .before), digits (c .before .before), c .digits-of .ensures)
+
+returns-5 : tie.Need-returns-5
+returns-5 c =
+    let u = c .before .before .before in
+    let k = known u in
+    let a = start u in
+    sym (ap answered (judged-over (old a) (x a) (content a) (strings a) (right a) (kind k) (listed k) (good (went-on u)) (count u) (unused u) (omega (arith, c .if2 .taken, c .before .digits-of .ensures))))
+
+returns-6 : tie.Need-returns-6
+returns-6 c =
+    let u = c .before .before .before in
+    let k = known u in
+    let a = start u in
+    sym (ap answered (judged-made (old a) (x a) (content a) (strings a) (right a) (kind k) (listed k) (good (went-on u)) (count u) (unused u) (omega (arith, c .if2 .left, c .before .digits-of .ensures))))
+
+pub judge-spec : {M : Type 1} → statement M
+judge-spec =
+    tie.close
+    (tie.spec
+    test-old-requires
+    enum-told
+    enum-told-2
+    returns
+    row-of-requires
+    enum-known-kind
+    enum-told-3
+    returns-2
+    right-data-requires
+    returns-3
+    closing-of-requires
+    enum-known-unused
+    enum-told-4
+    returns-4
+    add-end
+    digits-of-requires
+    add-end-2
+    add-if2
+    returns-5
+    returns-6)

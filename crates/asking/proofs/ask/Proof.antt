@@ -1,0 +1,82 @@
+-- `asking::ask` meets its contract: the part is cut where the string that was found says.
+use Prim.Native.Nat.{ℕ, _+_, _≤_}
+use mathlib.Core.Path.{_≡_, sym, ap, _∙_}
+use mathlib.Core.List.{List}
+use native.Mathlib.Nat.{add-sub-cancel-left}
+use native.Mathlib.Omega.{arith}
+use borrow.Author.Needs.{needs}
+use lib.ListN.{length, take, drop}
+use Rattle.refusal.specs.Outcome.{made}
+use Rattle.elements.specs.declared.Element.{Element}
+use Rattle.asking.specs.Asking.{asked, partOf}
+use Rattle.elements.proofs.CountLaws.{found-string, found-refused}
+use Rattle.asking.proofs.AskLaws.{asked-stands, part-within}
+use Rattle.asking.proofs.ask.Statement.{statement}
+use Rattle.asking.proofs.ask.Tie as tie
+
+find-requires : tie.Need-find-requires
+find-requires c κs = search needs
+
+enum-known-element : tie.Need-enum-known-element
+enum-known-element c = search needs
+
+enum-told : tie.Need-enum-told
+enum-told c = search needs
+
+slice-aggregate-result : tie.Need-slice-aggregate-result
+slice-aggregate-result c = search needs
+
+returns : tie.Need-returns
+returns c =
+    let message = c .before .before .before .before .before .args .message .now in
+    let x = c .before .before .before .before .before .args .identifier in
+    sym (ap (partOf message) (found-refused (asked message x) _ (sym (c .before .enum-told .given .1) ∙ c .before .before .before .find .ensures)))
+
+-- a string was found
+module _ (c : tie.After-element) where
+  abbrev message : List ℕ
+  message = c .before .before .before .before .args .message .now
+
+  abbrev x : ℕ
+  x = c .before .before .before .before .args .identifier
+
+  abbrev string : Element
+  string = c .element .given .0 .0
+
+  is-asked : asked message x ≡ made string
+  is-asked = found-string (asked message x) string (sym (c .element .given .1) ∙ c .before .before .find .ensures)
+
+  inside : string .begin + string .length ≤ length message
+  inside = part-within message string (asked-stands message x string is-asked)
+
+add-end : tie.Need-add-end
+add-end c = omega (arith, inside (c .before .before))
+
+sub-result : tie.Need-sub-result
+sub-result c = search needs
+
+part-result-start : tie.Need-part-result-start
+part-result-start c = search needs
+
+part-result-end : tie.Need-part-result-end
+part-result-end c = inside (c .before .before)
+
+returns-2 : tie.Need-returns-2
+returns-2 c =
+    let e = c .before .before .before in
+    ap (λ (n : ℕ). take n (drop (string e .begin) (message e))) (add-sub-cancel-left (string e .begin) (string e .length)) ∙ sym (ap (partOf (message e)) (is-asked e))
+
+pub ask-spec : {M : Type 1} → statement M
+ask-spec =
+    tie.close
+    (tie.spec
+    find-requires
+    enum-known-element
+    enum-told
+    slice-aggregate-result
+    returns
+    add-end
+    sub-result
+    part-result-start
+    part-result-end
+    returns-2)

@@ -1,0 +1,35 @@
+-- `asking::asked` meets its contract: what was found is the rule's.
+use mathlib.Core.Path.{sym, ap, _∙_}
+use borrow.Author.Needs.{needs}
+use Rattle.refusal.specs.Outcome.{Outcome}
+use Rattle.refusal.specs.Fills.{answered}
+use Rattle.elements.specs.declared.Element.{Element}
+use Rattle.asking.specs.Asking.{asked, lengthOf}
+use Rattle.elements.proofs.CountLaws.{found-string, found-refused}
+use Rattle.asking.proofs.asked.Statement.{statement}
+use Rattle.asking.proofs.asked.Tie as tie
+
+find-requires : tie.Need-find-requires
+find-requires c κs = search needs
+
+enum-known-found : tie.Need-enum-known-found
+enum-known-found c = search needs
+
+enum-known-found-2 : tie.Need-enum-known-found-2
+enum-known-found-2 c = search needs
+
+returns : tie.Need-returns
+returns c =
+    let start = c .before .before .before .before .before in
+    let is = found-string (asked (start .args .message .now) (start .args .identifier)) _ (sym (c .before .found .given .1) ∙ c .before .before .before .find .ensures) in
+    sym (ap (λ (o : Outcome Element). answered (lengthOf o)) is)
+
+returns-2 : tie.Need-returns-2
+returns-2 c =
+    let start = c .before .before .before .before .before in
+    let is = found-refused (asked (start .args .message .now) (start .args .identifier)) _ (sym (c .before .found2 .given .1) ∙ c .before .before .before .find .ensures) in
+    sym (ap (λ (o : Outcome Element). answered (lengthOf o)) is)
+
+pub asked-spec : {M : Type 1} → statement M
+asked-spec =
+    tie.close (tie.spec find-requires enum-known-found enum-known-found-2 returns returns-2)

@@ -1,0 +1,91 @@
+-- `identifiers::contents::right_data` meets its contract: each `return` has the tests of the definition behind it; a kind's sizes are those of its content.
+use mathlib.Core.Path.{sym, _∙_}
+use native.Mathlib.Omega.{arith}
+use borrow.Author.Needs.{needs}
+use borrow.Author.Tests.{le-leb, lt-leb}
+use Rattle.identifiers.specs.declared.Content.the-variants.{DigitsWithCheck, Date, Digits, Text}
+use Rattle.identifiers.specs.Data.{passes, rightData}
+use Rattle.identifiers.proofs.DataLaws.{right-by-content, sized-number, sized-date}
+use Rattle.identifiers.proofs.contents.right_data.Statement.{statement}
+use Rattle.identifiers.proofs.contents.right_data.Tie as tie
+
+returns : tie.Need-returns
+unfolding rightData
+returns c = rw (lt-leb _ _ (c .if1 .taken))
+
+returns-2 : tie.Need-returns-2
+unfolding rightData
+returns-2 c = rw (le-leb _ _ (c .before .before .if1 .left), lt-leb _ _ (c .if2 .taken))
+
+enum-told : tie.Need-enum-told
+enum-told c = search needs
+
+is-number-requires : tie.Need-is-number-requires
+is-number-requires c κs =
+    let start = c .before .before .before .before .before .before .before in
+    let sizes = sized-number (start .args .kind) (start .pre) (c .enum-told .given .1) in
+    (omega arith, omega arith)
+
+enum-told-2 : tie.Need-enum-told-2
+enum-told-2 c = search needs
+
+is-date-requires : tie.Need-is-date-requires
+is-date-requires c κs =
+    let start = c .before .before .before .before .before .before .before in
+    let sizes = sized-date (start .args .kind) (start .pre) (c .enum-told2 .given .1) in
+    omega arith
+
+enum-told-3 : tie.Need-enum-told-3
+enum-told-3 c = search needs
+
+is-digits-requires : tie.Need-is-digits-requires
+is-digits-requires c κs = search needs
+
+enum-told-4 : tie.Need-enum-told-4
+enum-told-4 c = search needs
+
+is-text-requires : tie.Need-is-text-requires
+is-text-requires c κs = search needs
+
+returns-3 : tie.Need-returns-3
+unfolding passes
+returns-3 c =
+    let start = c .before .before .before .before .before .before .before .before in
+    c .is-number .ensures ∙ sym (right-by-content (start .args .kind) (start .args .bytes .now) DigitsWithCheck (omega arith) (omega arith) (c .before .enum-told .given .1))
+
+returns-4 : tie.Need-returns-4
+unfolding passes
+returns-4 c =
+    let start = c .before .before .before .before .before .before .before .before in
+    c .is-date .ensures ∙ sym (right-by-content (start .args .kind) (start .args .bytes .now) Date (omega arith) (omega arith) (c .before .enum-told2 .given .1))
+
+returns-5 : tie.Need-returns-5
+unfolding passes
+returns-5 c =
+    let start = c .before .before .before .before .before .before .before .before in
+    c .is-digits .ensures ∙ sym (right-by-content (start .args .kind) (start .args .bytes .now) Digits (omega arith) (omega arith) (c .before .enum-told3 .given .1))
+
+returns-6 : tie.Need-returns-6
+unfolding passes
+returns-6 c =
+    let start = c .before .before .before .before .before .before .before .before in
+    c .is-text .ensures ∙ sym (right-by-content (start .args .kind) (start .args .bytes .now) Text (omega arith) (omega arith) (c .before .enum-told4 .given .1))
+
+pub right-data-spec : {M : Type 1} → statement M
+right-data-spec =
+    tie.close
+    (tie.spec
+    returns
+    returns-2
+    enum-told
+    is-number-requires
+    enum-told-2
+    is-date-requires
+    enum-told-3
+    is-digits-requires
+    enum-told-4
+    is-text-requires
+    returns-3
+    returns-4
+    returns-5
+    returns-6)

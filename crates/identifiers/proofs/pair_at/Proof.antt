@@ -1,0 +1,60 @@
+-- `identifiers::pair_at` meets its contract: two digits make less than 100.
+use Prim.Native.Nat.{ℕ, _+_, _*_, _<_}
+use mathlib.Core.Path.{ap₂}
+use native.Mathlib.Omega.{arith}
+use lib.ListN.{getD}
+use borrow.Author.Needs.{needs}
+use Rattle.digits.proofs.DigitLaws.{digit-range}
+use Rattle.identifiers.proofs.pair_at.Statement.{statement}
+use Rattle.identifiers.proofs.pair_at.Tie as tie
+
+shared-slice-read-value-of : tie.Need-shared-slice-read-value-of
+shared-slice-read-value-of c = search needs
+
+value-of-requires : tie.Need-value-of-requires
+value-of-requires c κs = digit-range _ (c .before .before .pre .1 .0) .0
+
+mul-result : tie.Need-mul-result
+mul-result c =
+    let start = c .before .before .before in
+    let range = digit-range (getD (start .args .bytes .now) (start .args .at) 0) (start .pre .1 .0) in
+    omega (arith, c .value-of .ensures)
+
+add-value-of : tie.Need-add-value-of
+add-value-of c = search needs
+
+shared-slice-read-value-of-2 : tie.Need-shared-slice-read-value-of-2
+shared-slice-read-value-of-2 c = search needs
+
+value-of-requires-2 : tie.Need-value-of-requires-2
+value-of-requires-2 c κs = digit-range _ (c .before .before .before .before .pre .1 .1) .0
+
+-- the two digits at the end
+module _ (c : tie.After-value-of2) where
+  abbrev start : tie.Start
+  start = c .before .before .before .before .before
+
+  small : 10 * c .before .before .value-of .result + c .value-of2 .result < 100
+  small =
+      let first = digit-range (getD (start .args .bytes .now) (start .args .at) 0) (start .pre .1 .0) in
+      let second = digit-range (getD (start .args .bytes .now) (start .args .at + 1) 0) (start .pre .1 .1) in
+      omega (arith, c .before .before .value-of .ensures, c .value-of2 .ensures)
+
+add-result : tie.Need-add-result
+add-result c = omega (arith, small c)
+
+returns : tie.Need-returns
+returns c = (ap₂ (λ (a b : ℕ). 10 * a + b) (c .before .before .value-of .ensures) (c .value-of2 .ensures), small c)
+
+pub pair-at-spec : {M : Type 1} → statement M
+pair-at-spec =
+    tie.close
+    (tie.spec
+    shared-slice-read-value-of
+    value-of-requires
+    mul-result
+    add-value-of
+    shared-slice-read-value-of-2
+    value-of-requires-2
+    add-result
+    returns)
