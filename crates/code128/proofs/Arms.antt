@@ -1,12 +1,7 @@
 -- A `match` on a number that names every number below n, seen from its last arm.
 use Prim.Native.Nat.{ℕ, zero, suc, _≤_}
-use mathlib.Core.Path.{_≡_}
 use native.Mathlib.Omega.{arith}
-
--- x is none of the numbers below n
-abbrev pub Other : ℕ → ℕ → Type 0
-Other x zero = Unit
-Other x (suc n) = Other x n × (x ≡ n → ⊥)
+use Rattle.code128.specs.Matching.{Other}
 
 pub beyond : (x n : ℕ) → Other x n → n ≤ x
 beyond x zero others = omega arith

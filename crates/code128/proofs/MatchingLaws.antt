@@ -1,14 +1,13 @@
--- The matcher finds exactly the pattern's value: among the patterns a value's remainder by 397 is its own, and six widths that are packed
--- into a pattern's number are the pattern.
-use Prim.Native.Nat.{ℕ, _+_, _*_, _/_, _%_, _^_, _≤_, _<_}
+-- The matcher finds exactly the pattern's value: among the patterns a value's key is its own, and six widths that are packed into a pattern's
+-- number are the pattern.
+use Prim.Native.Nat.{ℕ, _/_, _%_, _≤_, _<_}
 use mathlib.Core.Path.{_≡_, refl, sym, ap, _∙_}
-use mathlib.Core.Bool.{Bool, true, false, not, cond}
+use mathlib.Core.Bool.{Bool, true, false}
 use mathlib.Core.List.{List, [], _∷_}
 use native.Mathlib.Omega.{arith}
 use lib.ListN.{length, getD, take}
 use lib.Dec.{T, eqb, ltb, eqb→eq, ltb→lt}
-use borrow.Author.Tests.{lt-ltb, ltb-true}
-use Rattle.laws.specs.First.{firstNot}
+use borrow.Author.Tests.{lt-ltb}
 use Rattle.laws.specs.Packed.{packed}
 use Rattle.laws.proofs.Packed.{Bytes, packed-same}
 use Rattle.laws.proofs.Tables.{every, at-entry}
@@ -17,11 +16,11 @@ use Rattle.patterns.specs.Patterns.{same, valueIn}
 use Rattle.patterns.proofs.PatternLaws.{same-true, value-of, value-none}
 use Rattle.code128.specs.declared.characters.Match.the-variants.{Value, Nothing}
 use Rattle.code128.specs.Characters.{patterns}
-use Rattle.code128.specs.Matching.{matchOf, candidateOf, eights}
+use Rattle.code128.specs.Matching.{matchOf, sixPacked, keyOf, candidateOf, packedPatterns}
 use Rattle.code128.proofs.PatternLaws.{patterns-are, patterns-distinct, pattern-length}
 
 -- six widths as the code packs them
-pub packed-six : (xs : List ℕ) → 6 ≤ length xs → packed (take 6 xs) ≡ getD xs 0 0 + 256 * (getD xs 1 0 + 256 * (getD xs 2 0 + 256 * (getD xs 3 0 + 256 * (getD xs 4 0 + 256 * getD xs 5 0))))
+pub packed-six : (xs : List ℕ) → 6 ≤ length xs → sixPacked xs ≡ packed (take 6 xs)
 unfolding packed
 packed-six [] h = absurd (omega arith)
 packed-six (a ∷ []) h = absurd (omega arith)
@@ -40,34 +39,26 @@ pattern-bytes v h i within =
     (at-entry (λ (k : ℕ) (pattern : List ℕ). every (λ (k width : ℕ). ltb width 256) pattern) [] patterns tt v h)
     i within)
 
-pub candidate-below : (key : ℕ) → candidateOf key < 106
-unfolding candidateOf
-candidate-below key = go (ltb v (length patterns)) refl
-  where
-    v : ℕ
-    v = firstNot (λ (pattern : List ℕ). not (eqb (packed pattern % 397) key)) patterns
+-- the tables: each candidate is a value, each pattern's key leads to its value, and each value's number is its pattern's
+pub candidate-below : (key : ℕ) → key < 256 → candidateOf key < 106
+candidate-below key h = ltb→lt _ 106 (at-entry (λ (k x : ℕ). ltb (candidateOf k) 106) 0 (run 0 256) tt key h)
 
-    go : (b : Bool) → ltb v (length patterns) ≡ b → cond b v 0 < 106
-    go true e = rw patterns-are at (ltb-true v (length patterns) e)
-    go false e = omega arith
+candidate-right : (v : ℕ) → v < 106 → candidateOf (keyOf (packed (getD patterns v []))) ≡ v
+unfolding patterns packed
+candidate-right v h = eqb→eq _ v (at-entry (λ (k : ℕ) (pattern : List ℕ). eqb (candidateOf (keyOf (packed pattern))) k) [] patterns tt v h)
 
-candidate-right : (v : ℕ) → v < 106 → candidateOf (packed (getD patterns v []) % 397) ≡ v
-unfolding candidateOf patterns packed firstNot
-candidate-right v h = eqb→eq _ v (at-entry (λ (k : ℕ) (pattern : List ℕ). eqb (candidateOf (packed pattern % 397)) k) [] patterns tt v h)
-
--- a candidate is one byte of eight
-pub candidate-of-eight : (key : ℕ) → key < 397 → getD eights (key / 8) 0 / 2 ^ (8 * (key % 8)) % 256 ≡ candidateOf key
-unfolding eights candidateOf patterns packed firstNot
-candidate-of-eight key h = eqb→eq _ _ (at-entry (λ (k x : ℕ). eqb (getD eights (k / 8) 0 / 2 ^ (8 * (k % 8)) % 256) (candidateOf k)) 0 (run 0 397) tt key h)
+pub packed-at : (v : ℕ) → v < 106 → getD packedPatterns v 0 ≡ packed (getD patterns v [])
+unfolding patterns packed
+packed-at v h = eqb→eq _ _ (at-entry (λ (k : ℕ) (pattern : List ℕ). eqb (getD packedPatterns k 0) (packed pattern)) [] patterns tt v h)
 
 module _ (widths : List ℕ) (six : length widths ≡ 6) (bytes : Bytes widths) where
   abbrev candidate : ℕ
-  candidate = candidateOf (packed widths % 397)
+  candidate = candidateOf (keyOf (packed widths))
 
   pub match-found : packed widths ≡ packed (getD patterns candidate []) → Value candidate ≡ matchOf (valueIn patterns widths)
   unfolding matchOf
   match-found e =
-      let below = candidate-below (packed widths % 397) in
+      let below = candidate-below (keyOf (packed widths)) (omega arith) in
       let row : getD patterns candidate [] ≡ widths =
       packed-same (getD patterns candidate []) widths (pattern-length candidate below ∙ sym six) (pattern-bytes candidate below) bytes (sym e) in
       rw (value-of patterns patterns-distinct candidate widths (rw patterns-are below) row, patterns-are, lt-ltb candidate 106 below)
@@ -77,7 +68,7 @@ module _ (widths : List ℕ) (six : length widths ≡ 6) (bytes : Bytes widths) 
   match-none ne =
       let none : valueIn patterns widths ≡ length patterns =
       value-none patterns widths (λ v h e.
-      let is : candidate ≡ v = ap (λ (ws : List ℕ). candidateOf (packed ws % 397)) (sym e) ∙ candidate-right v (rw patterns-are at h) in
+      let is : candidate ≡ v = ap (λ (ws : List ℕ). candidateOf (keyOf (packed ws))) (sym e) ∙ candidate-right v (rw patterns-are at h) in
       ne (sym (ap (λ (u : ℕ). packed (getD patterns u [])) is ∙ ap packed e))) in
       rw (none, patterns-are)
 

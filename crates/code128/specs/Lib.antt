@@ -2,7 +2,10 @@
 --
 --   row, patterns, stop   Characters   the widths of the 106 characters and of the stop
 --   matchOf               Matching     what the matcher answers for six widths
---   candidateOf, eights   Matching     the one value that six widths can have
+--   sixPacked, keyOf      Matching     six widths as one number, and its key
+--   candidateOf, eights   Matching     the one value that widths with a key can have
+--   packedPatterns        Matching     the patterns, each as one number
+--   Other                 Matching     a number that no arm of a `match` names
 --   placed, checkOf       Check        the modulo 103 check
 pub mod Characters
 pub mod Matching

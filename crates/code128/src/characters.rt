@@ -3,10 +3,9 @@ ghost use mathlib.Core.Path.{_≡_};
 ghost use mathlib.Core.List.{[]};
 ghost use Prim.Native.Nat.{_<_, _≤_};
 ghost use lib.ListN.{length, getD, take};
-ghost use Rattle.laws.specs.Packed.{packed};
 ghost use Rattle.patterns.specs.Patterns.{valueIn};
 ghost use Rattle.code128.specs.Characters.{patterns};
-ghost use Rattle.code128.specs.Matching.{matchOf, candidateOf};
+ghost use Rattle.code128.specs.Matching.{matchOf, sixPacked, keyOf, candidateOf};
 use crate::tables;
 
 // The value of a character, 0 to 105, or that its widths are no pattern.
@@ -55,7 +54,7 @@ pub fn value_of(part: &[u8]) -> Match
     ensures { λ r. ⌜ r ≡ matchOf (valueIn patterns (take 6 (now (part .entry)))) ⌝ }
 {
     let widths = packed_six(part);
-    let candidate = candidate_of(widths % 397);
+    let candidate = candidate_of(key_of(widths));
     if widths == tables::packed_of(candidate) {
         Match::Value(candidate)
     } else {
@@ -63,23 +62,36 @@ pub fn value_of(part: &[u8]) -> Match
     }
 }
 
-// The one value whose pattern leaves the remainder.
+// The one value whose pattern has the key.
 fn candidate_of(key: u64) -> usize
-    requires { ⌜ key < 397 ⌝ }
+    requires { ⌜ key < 256 ⌝ }
     ensures { λ r. ⌜ r ≡ candidateOf key ⌝ }
     ensures { λ r. ⌜ r < 106 ⌝ }
 {
     let eight = tables::eight_of(key / 8);
-    ((eight >> (8 * (key % 8))) % 256) as usize
+    ((eight >> (8 * (key % 8))) % 128) as usize
+}
+
+// The weights are any that give each pattern another key.
+fn key_of(widths: u64) -> u64
+    ensures { λ r. ⌜ r ≡ keyOf widths ⌝ }
+    ensures { λ r. ⌜ r < 256 ⌝ }
+{
+    let four = widths % 0x1_0000_0000;
+    let two = widths / 0x1_0000_0000;
+    (four * 0x23d_5000 + two * 0x10d_a000) / 0x100_0000 % 256
 }
 
 fn packed_six(part: &[u8]) -> u64
     requires { ⌜ 6 ≤ length (now part) ⌝ }
-    ensures { λ r. ⌜ r ≡ packed (take 6 (now (part .entry))) ⌝ }
+    ensures { λ r. ⌜ r ≡ sixPacked (now (part .entry)) ⌝ }
 {
-    let last = wide(part[4]) + 256 * wide(part[5]);
-    let middle = wide(part[2]) + 256 * (wide(part[3]) + 256 * last);
-    wide(part[0]) + 256 * (wide(part[1]) + 256 * middle)
+    let four = wide(part[0])
+        + 0x100 * wide(part[1])
+        + 0x1_0000 * wide(part[2])
+        + 0x100_0000 * wide(part[3]);
+    let two = wide(part[4]) + 0x100 * wide(part[5]);
+    four + 0x1_0000_0000 * two
 }
 
 fn wide(width: u8) -> u64

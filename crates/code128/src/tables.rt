@@ -1,15 +1,12 @@
-// The widths of the 106 characters, and the way from widths to a value. Both are a `match` on a number, which becomes one table of the
-// program: an array would be laid out anew at every look.
+// The widths of the 106 characters, and the way from widths to a value. Each is a `match` on a number, which becomes one table of the program:
+// an array would be laid out anew at every look.
 ghost use mathlib.Core.Path.{_≡_};
-ghost use mathlib.Core.List.{[]};
 ghost use lib.ListN.{getD};
-ghost use Rattle.laws.specs.Packed.{packed};
-ghost use Rattle.code128.specs.Characters.{patterns};
-ghost use Rattle.code128.specs.Matching.{eights};
+ghost use Rattle.code128.specs.Matching.{packedPatterns, eights, Other};
 
 // A value's pattern as one number: the first width at the lowest place, each next one 256 times higher.
 pub fn packed_of(value: usize) -> u64
-    ensures { λ r. ⌜ r ≡ packed (getD patterns value []) ⌝ }
+    ensures { λ r. ⌜ r ≡ getD packedPatterns value 0 ⌝ }
 {
     match value {
         0 => 0x0202_0202_0102,
@@ -118,66 +115,63 @@ pub fn packed_of(value: usize) -> u64
         103 => 0x0201_0401_0102,
         104 => 0x0401_0201_0102,
         105 => 0x0203_0201_0102,
-        _ => 0,
+        _ => no_pattern(value),
     }
 }
 
-// The one value that widths with a certain remainder by 397 can have, or 0, for eight remainders at a time: a byte for each, the first at
-// the lowest place. What is found here is compared with the widths.
-pub fn eight_of(eighth: u64) -> u64
-    ensures { λ r. ⌜ r ≡ getD eights eighth 0 ⌝ }
+// Eight candidates to a row, a byte for each, the first at the lowest place: the one value that widths with a certain key can have, or 0.
+// What is found here is compared with the widths.
+pub fn eight_of(row: u64) -> u64
+    ensures { λ r. ⌜ r ≡ getD eights row 0 ⌝ }
 {
-    match eighth {
-        0 => 0x0000_0000_0000_0013,
-        1 => 0x6011_2c00_0000_0000,
-        2 => 0x0000_0000_0000_0000,
-        3 => 0x0f0d_0000_005d_3c00,
-        4 => 0x0029_0065_0000_0000,
-        5 => 0x2a00_0000_0000_0000,
-        6 => 0x0a00_0000_0000_003e,
-        7 => 0x0000_0000_0000_0000,
-        8 => 0x0000_0026_4459_5700,
-        9 => 0x003b_0000_0000_0027,
-        10 => 0x0000_0705_0061_0000,
-        11 => 0x1c00_0000_3700_0000,
-        12 => 0x0024_0300_0000_0063,
-        13 => 0x0000_0000_0000_0000,
-        14 => 0x003f_0000_0000_0039,
-        15 => 0x0000_1600_0000_1f14,
-        16 => 0x0000_0000_5b00_0000,
-        17 => 0x0033_0000_004f_6900,
-        18 => 0x2e0e_5e00_0000_0000,
-        19 => 0x0000_0000_5400_0000,
-        20 => 0x0c51_0000_0000_3000,
-        21 => 0x3d00_005f_0000_0000,
-        22 => 0x5c00_0000_004e_0000,
-        23 => 0x5a00_0000_0000_5800,
-        24 => 0x0000_0000_2800_0067,
-        25 => 0x0000_4823_0056_0000,
-        26 => 0x1d38_004c_0000_0049,
-        27 => 0x0046_0400_0000_0000,
-        28 => 0x1900_0000_0000_2500,
-        29 => 0x0021_0000_0000_001b,
-        30 => 0x0000_1220_0047_0000,
-        31 => 0x0000_0000_0000_0036,
-        32 => 0x0015_0100_0000_3100,
-        33 => 0x0000_0000_6600_0000,
-        34 => 0x001e_0000_552f_0000,
-        35 => 0x2b52_0000_0000_0000,
-        36 => 0x0000_0053_1000_0000,
-        37 => 0x5000_0000_004b_1700,
-        38 => 0x0000_002d_0000_0000,
-        39 => 0x0000_0000_0b00_0000,
-        40 => 0x3500_0000_0062_0000,
-        41 => 0x0000_0009_0000_004a,
-        42 => 0x0000_4200_0000_0000,
-        43 => 0x1a00_6800_0000_0843,
-        44 => 0x0040_6400_0000_003a,
-        45 => 0x0000_0000_0006_2200,
-        46 => 0x0000_0000_0000_0018,
-        47 => 0x0034_0232_4541_0000,
-        48 => 0x0000_0000_0000_0000,
-        49 => 0x0000_0000_0000_004d,
-        _ => 0,
+    match row {
+        0 => 0x004c_4100_0000_001b,
+        1 => 0x0000_391e_2a00_244f,
+        2 => 0x4500_0000_0000_0000,
+        3 => 0x3e38_325e_2900_2300,
+        4 => 0x0500_0000_0000_0000,
+        5 => 0x0002_0e00_4800_000b,
+        6 => 0x0028_2200_0000_001d,
+        7 => 0x2e00_1c01_0d00_0700,
+        8 => 0x0006_004d_3035_6334,
+        9 => 0x0015_000f_0000_0000,
+        10 => 0x4400_0047_0000_0000,
+        11 => 0x0000_0000_332d_004b,
+        12 => 0x004e_0043_0000_0000,
+        13 => 0x0000_3b20_002c_0026,
+        14 => 0x0008_0000_0000_0000,
+        15 => 0x0000_1211_0000_0000,
+        16 => 0x0000_0025_0000_0000,
+        17 => 0x0060_0000_1610_0000,
+        18 => 0x0000_0000_003c_5a64,
+        19 => 0x0000_0000_5300_0000,
+        20 => 0x664a_6562_3731_5d00,
+        21 => 0x5067_0040_0000_5f00,
+        22 => 0x0000_0000_4956_1869,
+        23 => 0x3600_005c_2721_2f00,
+        24 => 0x0000_0000_0000_0061,
+        25 => 0x0000_0000_5500_683f,
+        26 => 0x0000_0000_0000_0000,
+        27 => 0x1452_3d42_0000_5400,
+        28 => 0x0000_0000_0058_1a00,
+        29 => 0x5719_1351_0a04_0000,
+        30 => 0x035b_0017_593a_1f2b,
+        31 => 0x0000_0c00_4600_0900,
+        _ => no_candidates(row),
     }
+}
+
+// What stands past the last row of each.
+fn no_pattern(value: usize) -> u64
+    requires { ⌜ Other value 106 ⌝ }
+    ensures { λ r. ⌜ r ≡ getD packedPatterns value 0 ⌝ }
+{
+    0
+}
+
+fn no_candidates(row: u64) -> u64
+    requires { ⌜ Other row 32 ⌝ }
+    ensures { λ r. ⌜ r ≡ getD eights row 0 ⌝ }
+{
+    0
 }

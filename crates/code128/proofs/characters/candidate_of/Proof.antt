@@ -1,9 +1,9 @@
 -- `code128::characters::candidate_of` meets its contract: the candidate is one byte of the eight that are looked up.
 use Prim.Native.Nat.{ℕ, _/_, _%_, _*_, _^_}
-use mathlib.Core.Path.{ap, _∙_}
+use mathlib.Core.Path.{ap}
 use native.Mathlib.Omega.{arith}
 use borrow.Author.Needs.{needs}
-use Rattle.code128.proofs.MatchingLaws.{candidate-below, candidate-of-eight}
+use Rattle.code128.proofs.MatchingLaws.{candidate-below}
 use Rattle.code128.proofs.characters.candidate_of.Statement.{statement}
 use Rattle.code128.proofs.characters.candidate_of.Tie as tie
 
@@ -19,8 +19,8 @@ shr-result c = search needs
 returns : tie.Need-returns
 returns c =
     let key = c .before .args .key in
-    let is = ap (λ (eight : ℕ). eight / 2 ^ (8 * (key % 8)) % 256) (c .eight-of .ensures) ∙ candidate-of-eight key (omega arith) in
-    (is, rw is (candidate-below key))
+    let is = ap (λ (eight : ℕ). eight / 2 ^ (8 * (key % 8)) % 128) (c .eight-of .ensures) in
+    (is, rw is (candidate-below key (omega arith)))
 
 pub candidate-of-spec : {M : Type 1} → statement M
 candidate-of-spec = tie.close (tie.spec eight-of-requires mul-result shr-result returns)

@@ -2,7 +2,7 @@
 use mathlib.Core.Path.{ap, _∙_}
 use native.Mathlib.Omega.{arith}
 use borrow.Author.Needs.{needs}
-use Rattle.code128.proofs.MatchingLaws.{unpacked, pattern-unpacked}
+use Rattle.code128.proofs.MatchingLaws.{unpacked, packed-at, pattern-unpacked}
 use Rattle.code128.proofs.characters.pattern_of.Statement.{statement}
 use Rattle.code128.proofs.characters.pattern_of.Tie as tie
 
@@ -28,7 +28,9 @@ cast-t19 : tie.Need-cast-t19
 cast-t19 c = search needs
 
 returns : tie.Need-returns
-returns c = ap unpacked (c .packed-of .ensures) ∙ pattern-unpacked (c .before .args .value) (omega arith)
+returns c =
+    let value = c .before .args .value in
+    ap unpacked (c .packed-of .ensures ∙ packed-at value (omega arith)) ∙ pattern-unpacked value (omega arith)
 
 pub pattern-of-spec : {M : Type 1} → statement M
 pattern-of-spec =
