@@ -3,17 +3,10 @@
 use Prim.Native.Nat.{ℕ, _+_, _-_}
 use mathlib.Core.Bool.{cond}
 use lib.Dec.{eqb, ltb}
-
-pub data Set : Type 0 where
-  setA setB setC : Set
-
-pub data Meaning : Type 0 where
-  byte : ℕ → Meaning
-  pair : ℕ → Meaning
-  change : Set → Meaning
-  shift : Meaning
-  separator : Meaning
-  illegal : Meaning
+pub use Rattle.code_sets.specs.declared.sets.Set.{Set}
+pub use Rattle.code_sets.specs.declared.sets.Set.the-variants.{A as setA, B as setB, C as setC}
+pub use Rattle.code_sets.specs.declared.sets.Meaning.{Meaning}
+pub use Rattle.code_sets.specs.declared.sets.Meaning.the-variants.{Byte as byte, Pair as pair, Change as change, Shift as shift, Separator as separator, Illegal as illegal}
 
 -- the byte of a value below 96: "Set A: 0 to 63 are bytes 32 to 95, 64 to 95 are bytes 0 to 31. Set B: 0 to 95 are bytes 32 to 127."
 abbrev pub byteIn : Set → ℕ → ℕ
@@ -27,17 +20,18 @@ other setA = setB
 other setB = setA
 other setC = setC
 
--- "A and B: 96 FNC3, 97 FNC2, 98 shift, 99 to set C. A: 100 to B, 101 FNC4. B: 100 FNC4, 101 to A. C: 100 to B, 101 to A. 102 is FNC1 in all
--- three; after the first place it gives byte 29."
+-- "A and B: 96 FNC3, 97 FNC2, 98 shift, 99 to set C. A: 100 to B, 101 FNC4. B: 100 FNC4, 101 to A": one value changes to the other of the two.
+-- "102 is FNC1 in all three; after the first place it gives byte 29."
+abbrev pub letterControl : ℕ → Set → ℕ → Meaning
+letterControl other-by to value =
+    cond (eqb value 98) shift (cond (eqb value 99) (change setC) (cond (eqb value other-by) (change to) (cond (eqb value 102) separator illegal)))
+
+-- "C: 100 to B, 101 to A"
+abbrev pub digitControl : ℕ → Meaning
+digitControl value = cond (eqb value 100) (change setB) (cond (eqb value 101) (change setA) (cond (eqb value 102) separator illegal))
+
+-- "Set C: 0 to 99 are two digits."
 unfoldable pub meaningIn : Set → ℕ → Meaning
-meaningIn setA value =
-    cond (ltb value 96) (byte (byteIn setA value))
-    (cond (eqb value 98) shift
-    (cond (eqb value 99) (change setC) (cond (eqb value 100) (change setB) (cond (eqb value 102) separator illegal))))
-meaningIn setB value =
-    cond (ltb value 96) (byte (byteIn setB value))
-    (cond (eqb value 98) shift
-    (cond (eqb value 99) (change setC) (cond (eqb value 101) (change setA) (cond (eqb value 102) separator illegal))))
-meaningIn setC value =
-    cond (ltb value 100) (pair value)
-    (cond (eqb value 100) (change setB) (cond (eqb value 101) (change setA) (cond (eqb value 102) separator illegal)))
+meaningIn setA value = cond (ltb value 96) (byte (byteIn setA value)) (letterControl 100 setB value)
+meaningIn setB value = cond (ltb value 96) (byte (byteIn setB value)) (letterControl 101 setA value)
+meaningIn setC value = cond (ltb value 100) (pair value) (digitControl value)

@@ -9,6 +9,7 @@ use refusal::Answer;
 use refusal::Refusal;
 
 mod readers;
+pub mod sets;
 
 // The message that a start and the values after the first FNC1 spell: its bytes, or refusal 8 or 12.
 pub fn text_of(start: usize, values: &[u8], text: &mut [u8]) -> Answer

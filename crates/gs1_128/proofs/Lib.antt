@@ -2,14 +2,14 @@
 --
 --   TableLaws       which of the 106 patterns start a symbol, and which may follow
 --   CountLaws       the permitted counts of widths
---   SymbolLaws      the widths of a symbol, part by part
---   ReadingLaws     the scan finds exactly what was drawn
---   TextLaws        what legal values spell has only bytes of a message
---   StageLaws       the lines of the reading rule, one stage of the call after the other
---   WithCheckLaws   a spelling and its check character
---   CheckedLaws     the check of values that were replaced or exchanged
+--   SymbolLaws      the scan and the drawing of a symbol undo one another
+--   ReadingLaws     what the scan makes is a symbol's start and values, and every symbol's are made
+--   TextLaws        a text that was decoded has only bytes of a message
+--   StageLaws       the reader's stages, one after the other, are the rule
+--   WithCheckLaws   a spelling and the place of its check character
+--   CheckedLaws     with its check character no other such list differs from it a little
 --   DrawnLaws       characters drawn one after the other, then the stop
---   WrittenLaws     the lines of the writing rule
+--   WrittenLaws     the rule of writing, line by line
 --   Theorems        a list is read as a message exactly when it is a right symbol of it; one message; its strings
 --   ComesBack       what is written, read; what is read, written again; equal bars
 pub mod TableLaws

@@ -15,7 +15,9 @@ use Rattle.digits.specs.Digit.{isDigit}
 use Rattle.digits.proofs.DigitLaws.{digit-range}
 use Rattle.character_set_82.specs.Characters.{eightyTwo, isOf82, separator, isMessageByte}
 use Rattle.laws.proofs.AmongLaws.{all-among}
-use Rattle.code_sets.specs.Sets.{setB, setC, byte, pair, meaningIn}
+use Rattle.code_sets.specs.declared.sets.Set.the-variants.{B as setB, C as setC}
+use Rattle.code_sets.specs.declared.sets.Meaning.the-variants.{Byte as byte, Pair as pair}
+use Rattle.code_sets.specs.Sets.{meaningIn}
 use Rattle.code_sets.specs.Spelling.{ended, a-byte, a-pair, a-change, a-separator, SpellsBC, Plain, Spelled}
 use Rattle.spelling.specs.Best.{betterOf, valueB, chosen, bests, bestSpelling, fromB, fromC}
 use Rattle.spelling.proofs.OrderLaws.{better-of-two}

@@ -9,7 +9,9 @@ use native.Mathlib.Omega.{arith}
 use lib.ListN.{length}
 use lib.Dec.{eqb}
 use borrow.Author.Tests.{ne-eqb, eqb-true, eqb-false}
-use Rattle.code_sets.specs.Sets.{Set, setA, setB, setC, byte, pair, change, separator}
+use Rattle.code_sets.specs.declared.sets.Set.{Set}
+use Rattle.code_sets.specs.declared.sets.Set.the-variants.{A as setA, B as setB, C as setC}
+use Rattle.code_sets.specs.declared.sets.Meaning.the-variants.{Byte as byte, Pair as pair, Change as change, Separator as separator}
 use Rattle.code_sets.specs.Spelling.{Spells, ended, a-byte, a-pair, a-shift, a-change, a-separator, OnlyBC, SpellsBC}
 use Rattle.code_sets.specs.Reading.{startSet}
 use Rattle.spelling.specs.Best.{comesFirst, better, valueB, bests, bestSpelling, fromB, fromC}

@@ -8,7 +8,10 @@ use native.Mathlib.Omega.{arith}
 use lib.ListN.{length}
 use borrow.Author.Tests.{le-leb}
 use Rattle.digits.specs.Digit.{isDigit}
-use Rattle.code_sets.specs.Sets.{Set, setA, setB, setC, byte, pair, change, shift, byteIn, other}
+use Rattle.code_sets.specs.declared.sets.Set.{Set}
+use Rattle.code_sets.specs.declared.sets.Set.the-variants.{A as setA, B as setB, C as setC}
+use Rattle.code_sets.specs.declared.sets.Meaning.the-variants.{Byte as byte, Pair as pair, Change as change, Shift as shift}
+use Rattle.code_sets.specs.Sets.{byteIn, other}
 use Rattle.code_sets.specs.Spelling.{Spells, ended, a-byte, a-pair, a-shift, a-change, a-separator}
 use Rattle.code_sets.specs.Reading.{startSet}
 use Rattle.spelling.specs.Best.{valueB, bests, bestSpelling, fromB, fromC}

@@ -1,5 +1,4 @@
 -- `code_sets::read_from` meets its contract: the set that the start names, and nothing read so far.
-use mathlib.Core.Path.{_≡_}
 use borrow.Author.Tests.{ne-eqb}
 use borrow.Author.Needs.{needs}
 use Rattle.code_sets.proofs.read_from.Statement.{statement}
@@ -19,27 +18,24 @@ same-length c = search needs
 
 returns : tie.Need-returns
 returns c =
-    let start = c .before .before .before .before .before .before .before .args .start in
-    let is : start ≡ 103 = c .before .before .before .before .match .keys1 in
-    rw is (c .before .before .read-a .ensures)
+    let called = c .before .before .before .before in
+    rw (called .match .keys1) (c .before .before .read-a .ensures)
 
 same-length-2 : tie.Need-same-length-2
 same-length-2 c = search needs
 
 returns-2 : tie.Need-returns-2
 returns-2 c =
-    let start = c .before .before .before .before .before .before .before .args .start in
-    let is : start ≡ 104 = c .before .before .before .before .match .keys2 in
-    rw is (c .before .before .read-b .ensures)
+    let called = c .before .before .before .before in
+    rw (called .match .keys2) (c .before .before .read-b .ensures)
 
 same-length-3 : tie.Need-same-length-3
 same-length-3 c = search needs
 
 returns-3 : tie.Need-returns-3
 returns-3 c =
-    let start = c .before .before .before .before .before .before .before .args .start in
-    let rest = c .before .before .before .before .match .rest in
-    simp (ne-eqb start 103 (rest .0 .1), ne-eqb start 104 (rest .1)) (c .before .before .read-c .ensures)
+    let called = c .before .before .before .before in
+    simp (ne-eqb _ _ (called .match .rest .0 .1), ne-eqb _ _ (called .match .rest .1)) (c .before .before .read-c .ensures)
 
 pub read-from-spec : {M : Type 1} → statement M
 read-from-spec =

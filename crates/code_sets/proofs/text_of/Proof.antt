@@ -1,17 +1,18 @@
 -- `code_sets::text_of` meets its promise: what the readers refuse is passed on, an empty message is refused, and what they put at the front
 -- of the call's own list is laid.
 use Prim.Native.Nat.{ℕ, _≤_}
-use mathlib.Core.Path.{_≡_, sym, ap, _∙_}
-use mathlib.Core.List.{List, [], _++_}
+use mathlib.Core.Path.{_≡_, sym, _∙_}
+use mathlib.Core.List.{List, []}
 use native.Mathlib.Omega.{arith}
-use lib.ListN.{length, take, drop, replicate, length-append}
-use lib.Seq.{length-take-le, take-at}
+use lib.ListN.{length, take}
+use lib.Seq.{length-take-le}
 use borrow.Author.Needs.{needs}
 use Rattle.refusal.specs.declared.Answer.the-variants.{Refused}
 use Rattle.refusal.specs.declared.Refusal.the-variants.{Sequence}
-use Rattle.refusal.specs.Outcome.{Outcome, made}
+use Rattle.refusal.specs.Outcome.{made}
 use Rattle.refusal.specs.Fills.{laying}
-use Rattle.refusal.proofs.FillsLaws.{refused-of-answer, made-of-answer, fills-refused, fills-passed, fills-same}
+use Rattle.refusal.proofs.FillsLaws.{refused-of-answer, fills-refused, fills-passed, fills-same}
+use Rattle.refusal.proofs.OwnLaws.{own-front}
 use Rattle.code_sets.specs.Reading.{in-set, startSet}
 use Rattle.code_sets.specs.Readers.{readOn}
 use Rattle.code_sets.proofs.DecodedLaws.{decoded-refused, decoded-empty, decoded-made}
@@ -32,53 +33,52 @@ enum-told c = search needs
 
 returns : tie.Need-returns
 returns c =
-    let args = c .before .before .before .before .before .before .before .args in
-    let read = c .before .before .before .read-from in
+    let read = c .before .before .before in
+    let args = read .before .before .before .before .args in
     let f = c .enum-told .given .0 .0 in
-    let is : read .result ≡ Refused f = c .enum-told .given .1 in
-    fills-passed _ f _ (read .result) is
-    (decoded-refused (args .start) (args .values .now) (length (args .text .now)) f (refused-of-answer _ f (sym is ∙ read .ensures .answer)))
+    let is : read .read-from .result ≡ Refused f = c .enum-told .given .1 in
+    fills-passed _ f _ (read .read-from .result) is
+    (decoded-refused (args .start) (args .values .now) (length (args .text .now)) f (refused-of-answer _ f (sym is ∙ read .read-from .ensures .answer)))
 
 -- what was read, where the readers did not refuse
 module _ (c : tie.After-known-told) where
-  abbrev values : List ℕ
-  values = c .before .before .before .before .before .before .before .before .args .values .now
+  abbrev read : tie.After-read-from
+  read = c .before .before .before .before
+
+  abbrev entry : tie.Start
+  entry = read .before .before .before .before
 
   abbrev start : ℕ
-  start = c .before .before .before .before .before .before .before .before .args .start
+  start = entry .args .start
+
+  abbrev values : List ℕ
+  values = entry .args .values .now
+
+  abbrev room : ℕ
+  room = length (entry .args .text .now)
 
   abbrev own : List ℕ
-  own = c .before .before .before .before .read-from .last .1 .1 .0
+  own = read .read-from .last .1 .1 .0
 
   abbrev count : ℕ
   count = c .before .read .given .0 .0
 
-  abbrev rule : Outcome (List ℕ)
-  rule = readOn [] (in-set (startSet start)) values
+  was-read : (readOn [] (in-set (startSet start)) values ≡ made (take count own)) × (count ≤ length own)
+  was-read = own-front _ _ own (read .read-from .result) count (c .before .read .given .1) (read .read-from .ensures)
 
-  was-read : (xs : List ℕ) × (rule ≡ made xs) × (length xs ≡ count)
-  was-read = made-of-answer rule count (sym (c .before .read .given .1) ∙ c .before .before .before .before .read-from .ensures .answer)
-
-  put-there : own ≡ was-read .0 ++ drop (length (was-read .0)) (replicate 48 0)
-  put-there = c .before .before .before .before .read-from .ensures .lent (was-read .0) (was-read .1)
-
-  front : take count own ≡ was-read .0
-  front = ap (take count) put-there ∙ take-at (was-read .0) (drop (length (was-read .0)) (replicate 48 0)) count (was-read .2)
-
-  few : count ≤ length own
-  few = omega (arith, was-read .2, ap length put-there, length-append (was-read .0) (drop (length (was-read .0)) (replicate 48 0)))
+  long : length (take count own) ≡ count
+  long = length-take-le count own (was-read .1)
 
 returns-2 : tie.Need-returns-2
 returns-2 c =
-    let args = c .before .before .before .before .before .before .before .before .before .args in
-    let read = was-read (c .before) in
-    fills-refused _ Sequence _ (decoded-empty (args .start) (args .values .now) (length (args .text .now)) (read .0) (read .1) (read .2 ∙ c .if1 .taken))
+    let at = c .before in
+    fills-refused _ Sequence _ (decoded-empty (start at) (values at) (room at) (take (count at) (own at)) (was-read at .0) (long at ∙ c .if1 .taken))
 
 array-share-prefix-own : tie.Need-array-share-prefix-own
-array-share-prefix-own c = few (c .before)
+array-share-prefix-own c = was-read (c .before) .1
 
 slice-aggregate-lay : tie.Need-slice-aggregate-lay
-slice-aggregate-lay c = sym (length-take-le (count (c .before .before)) (own (c .before .before)) (few (c .before .before)))
+slice-aggregate-lay c = sym (long (c .before .before))
 
 lay-requires : tie.Need-lay-requires
 lay-requires c κs = search needs
@@ -88,13 +88,11 @@ same-length c = search needs
 
 returns-3 : tie.Need-returns-3
 returns-3 c =
-    let at = c .before .before .before .before .before .before in
-    let args = at .before .before .before .before .before .before .before .before .args in
-    let read = was-read at in
-    let room = length (args .text .now) in
-    fills-same _ (laying (take (count at) (own at)) room) _ _ _
-    (decoded-made (args .start) (args .values .now) room (read .0) (read .1) (omega (arith, read .2, c .before .before .before .before .before .if1 .left))
-    ∙ ap (λ (text : List ℕ). laying text room) (sym (front at)))
+    let some = c .before .before .before .before .before in
+    let at = some .before in
+    let text = take (count at) (own at) in
+    fills-same _ (laying text (room at)) _ _ _
+    (decoded-made (start at) (values at) (room at) text (was-read at .0) (omega (arith, long at, some .if1 .left)))
     (c .before .before .lay .ensures)
 
 pub text-of-spec : {M : Type 1} → statement M

@@ -25,15 +25,29 @@ abbrev μ-loop : tie.MeasureT-loop
 loop-holds : tie.Need-loop-holds Inv-loop μ-loop
 loop-holds c = (omega arith, omega arith, omega arith, c .before .before .before .pre .1 .1 .1 .1, refl, λ best before w. w)
 
+-- a turn of the loop
+module _ (c : tie.After-shared-slice-known3 Inv-loop μ-loop) where
+  abbrev at : tie.At-loop Inv-loop μ-loop
+  at = c .before .before
+
+  abbrev lent : tie.Start Inv-loop μ-loop
+  lent = at .before .before .before .before
+
+  abbrev message : List ℕ
+  message = lent .args .message .now
+
+  abbrev i : ℕ
+  i = at .loop .i
+
 shared-slice-read-if1 : tie.Need-shared-slice-read-if1 Inv-loop μ-loop
-shared-slice-read-if1 c = omega (arith, c .before .before .before .before .before .before .pre .1 .0)
+shared-slice-read-if1 c = omega (arith, lent c .pre .1 .0)
 
 -- at the change
-changes : (c : tie.Then1 Inv-loop μ-loop) → fromB (drop (c .before .before .before .loop .i) (c .before .before .before .before .before .before .before .args .message .now)) ≡ 99 ∷ fromC (drop (c .before .before .before .loop .i) (c .before .before .before .before .before .before .before .args .message .now))
+changes :
+    (c : tie.Then1 Inv-loop μ-loop) → fromB (drop (i (c .before)) (message (c .before))) ≡ 99 ∷ fromC (drop (i (c .before)) (message (c .before)))
 changes c =
-    let start = c .before .before .before .before .before .before .before in
-    let i = c .before .before .before .loop .i in
-    to-c (start .args .message .now) i (omega arith) _ (start .pre .1 .1 .1 .0 i (omega arith)) (c .if1 .taken)
+    let turn = c .before in
+    to-c (message turn) (i turn) (omega arith) _ (lent turn .pre .1 .1 .1 .0 (i turn) (omega arith)) (c .if1 .taken)
 
 slice-write-values : tie.Need-slice-write-values Inv-loop μ-loop
 slice-write-values c = omega (arith, ap length (changes c))
@@ -42,11 +56,11 @@ add-t13 : tie.Need-add-t13 Inv-loop μ-loop
 add-t13 c = omega (arith, ap length (changes c))
 
 same-length : tie.Need-same-length Inv-loop μ-loop
-same-length c = simp length-set (c .before .before .before .loop .inv .4)
+same-length c = simp length-set (at (c .before) .loop .inv .4)
 
 returns : tie.Need-returns Inv-loop μ-loop
 returns c =
-    let at = c .before .before .before .loop in
+    let at = at (c .before) .loop in
     record {
       within = at .inv .0;
       more = omega arith;
@@ -58,16 +72,18 @@ shared-slice-read-value-in-b c = omega arith
 
 value-in-b-requires : tie.Need-value-in-b-requires Inv-loop μ-loop
 value-in-b-requires c κs =
-    let start = c .before .before .before .before .before .before .before .before in
-    all-pass isMessageByte (start .args .message .now) (start .pre .1 .1 .0) (c .before .before .before .before .loop .i) 0 (omega arith)
+    let turn = c .before .before in
+    all-pass isMessageByte (message turn) (lent turn .pre .1 .1 .0) (i turn) 0 (omega arith)
 
 -- at a byte of set B
-stays : (c : tie.After-value-in-b Inv-loop μ-loop) → fromB (drop (c .before .before .before .before .before .loop .i) (c .before .before .before .before .before .before .before .before .before .args .message .now)) ≡ c .value-in-b .result ∷ fromB (drop (c .before .before .before .before .before .loop .i + 1) (c .before .before .before .before .before .before .before .before .before .args .message .now))
-stays c =
-    let start = c .before .before .before .before .before .before .before .before .before in
-    let i = c .before .before .before .before .before .loop .i in
-    in-b (start .args .message .now) i (omega arith) _ (start .pre .1 .1 .1 .0 i (omega arith)) (c .before .before .if1 .left)
-    ∙ ap (λ (v : ℕ). v ∷ fromB (drop (i + 1) (start .args .message .now))) (sym (c .value-in-b .ensures))
+module _ (c : tie.After-value-in-b Inv-loop μ-loop) where
+  abbrev turn : tie.After-shared-slice-known3 Inv-loop μ-loop
+  turn = c .before .before .before
+
+  stays : fromB (drop (i turn) (message turn)) ≡ c .value-in-b .result ∷ fromB (drop (i turn + 1) (message turn))
+  stays =
+      in-b (message turn) (i turn) (omega arith) _ (lent turn .pre .1 .1 .1 .0 (i turn) (omega arith)) (c .before .before .if1 .left)
+      ∙ ap (λ (v : ℕ). v ∷ fromB (drop (i turn + 1) (message turn))) (sym (c .value-in-b .ensures))
 
 slice-write-values-2 : tie.Need-slice-write-values-2 Inv-loop μ-loop
 slice-write-values-2 c = omega (arith, ap length (stays c))
@@ -83,7 +99,7 @@ loop-less c = omega arith
 
 loop-again : tie.Need-loop-again Inv-loop μ-loop
 loop-again c =
-    let at = c .before .before .before .before .before .loop in (
+    let at = at (turn c) .loop in (
       omega arith,
       omega arith,
       omega arith,

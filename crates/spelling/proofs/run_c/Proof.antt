@@ -22,15 +22,29 @@ abbrev μ-loop : tie.MeasureT-loop
 loop-holds : tie.Need-loop-holds Inv-loop μ-loop
 loop-holds c = (omega arith, omega arith, omega arith, c .before .before .before .pre .1 .1 .1, refl, λ best before w. w)
 
+-- a turn of the loop
+module _ (c : tie.After-shared-slice-known3 Inv-loop μ-loop) where
+  abbrev at : tie.At-loop Inv-loop μ-loop
+  at = c .before .before
+
+  abbrev lent : tie.Start Inv-loop μ-loop
+  lent = at .before .before .before .before
+
+  abbrev message : List ℕ
+  message = lent .args .message .now
+
+  abbrev i : ℕ
+  i = at .loop .i
+
 shared-slice-read-if1 : tie.Need-shared-slice-read-if1 Inv-loop μ-loop
-shared-slice-read-if1 c = omega (arith, c .before .before .before .before .before .before .pre .1 .0)
+shared-slice-read-if1 c = omega (arith, lent c .pre .1 .0)
 
 -- at the change
-changes : (c : tie.Then1 Inv-loop μ-loop) → fromC (drop (c .before .before .before .loop .i) (c .before .before .before .before .before .before .before .args .message .now)) ≡ 100 ∷ fromB (drop (c .before .before .before .loop .i) (c .before .before .before .before .before .before .before .args .message .now))
+changes :
+    (c : tie.Then1 Inv-loop μ-loop) → fromC (drop (i (c .before)) (message (c .before))) ≡ 100 ∷ fromB (drop (i (c .before)) (message (c .before)))
 changes c =
-    let start = c .before .before .before .before .before .before .before in
-    let i = c .before .before .before .loop .i in
-    to-b (start .args .message .now) i (omega arith) _ (start .pre .1 .1 .0 i (omega arith)) (c .if1 .taken)
+    let turn = c .before in
+    to-b (message turn) (i turn) (omega arith) _ (lent turn .pre .1 .1 .0 (i turn) (omega arith)) (c .if1 .taken)
 
 slice-write-values : tie.Need-slice-write-values Inv-loop μ-loop
 slice-write-values c = omega (arith, ap length (changes c))
@@ -39,11 +53,11 @@ add-t14 : tie.Need-add-t14 Inv-loop μ-loop
 add-t14 c = omega (arith, ap length (changes c))
 
 same-length : tie.Need-same-length Inv-loop μ-loop
-same-length c = simp length-set (c .before .before .before .loop .inv .4)
+same-length c = simp length-set (at (c .before) .loop .inv .4)
 
 returns : tie.Need-returns Inv-loop μ-loop
 returns c =
-    let at = c .before .before .before .loop in
+    let at = at (c .before) .loop in
     record {
       within = at .inv .0;
       more = omega arith;
@@ -51,12 +65,12 @@ returns c =
     }
 
 shared-slice-read-next-in-c : tie.Need-shared-slice-read-next-in-c Inv-loop μ-loop
-shared-slice-read-next-in-c c = omega (arith, c .before .before .before .before .before .before .before .before .pre .1 .0)
+shared-slice-read-next-in-c c = omega (arith, lent (c .before .before) .pre .1 .0)
 
 next-in-c-requires : tie.Need-next-in-c-requires Inv-loop μ-loop
 next-in-c-requires c κs =
-    let start = c .before .before .before .before .before .before .before .before in
-    (omega arith, (start .pre .1 .1 .0 (c .before .before .before .before .loop .i) (omega arith), c .before .if1 .left))
+    let turn = c .before .before in
+    (omega arith, (lent turn .pre .1 .1 .0 (i turn) (omega arith), c .before .if1 .left))
 
 slice-write-values-2 : tie.Need-slice-write-values-2 Inv-loop μ-loop
 slice-write-values-2 c = omega (arith, ap length (c .next-in-c .ensures .best))
@@ -69,7 +83,7 @@ loop-less c = omega (arith, c .next-in-c .ensures .later, c .next-in-c .ensures 
 
 loop-again : tie.Need-loop-again Inv-loop μ-loop
 loop-again c =
-    let at = c .before .before .before .before .before .loop in
+    let at = at (c .before .before .before) .loop in
     let step = c .next-in-c .ensures in (
       step .within,
       omega (arith, step .later),

@@ -59,45 +59,62 @@ sub-spell-from c = search needs
 part-spell-from-start : tie.Need-part-spell-from-start
 part-spell-from-start c = search needs
 
-part-spell-from-end : tie.Need-part-spell-from-end
-part-spell-from-end c = simp length-set (omega (arith, c .before .before .before .before .before .before .before .before .pre .1 .1))
-
 -- where the start is known
-module _ (c : tie.After-states3) where
+module _ (c : tie.After-start-of) where
+  abbrev planned : tie.After-plan
+  planned = c .before .before .before
+
+  abbrev lent : tie.Start
+  lent = planned .before .before .before .before
+
   abbrev message : List ℕ
-  message = c .before .before .before .before .before .before .before .before .args .message .now
+  message = lent .args .message .now
 
-  is-best : bestSpelling message ≡ c .before .start-of .result ∷ 102 ∷ from (c .before .before .starts-in-c .result) message
+  abbrev in-c : Bool
+  in-c = c .before .starts-in-c .result
+
+  abbrev start : ℕ
+  start = c .start-of .result
+
+  is-best : bestSpelling message ≡ start ∷ 102 ∷ from in-c message
   is-best =
-      found message (c .before .before .before .before .plan .result) (c .before .start-of .result) (c .before .before .starts-in-c .result)
-      (c .before .before .before .before .plan .ensures .0) (c .before .before .starts-in-c .ensures) (c .before .start-of .ensures)
+      found message (planned .plan .result) start in-c (planned .plan .ensures .0) (c .before .starts-in-c .ensures) (c .start-of .ensures)
 
-  few : length (from (c .before .before .starts-in-c .result) message) ≤ 48
-  few = omega (arith, best-short message, ap length is-best, c .before .before .before .before .before .before .before .before .pre .0)
+  few : length (from in-c message) ≤ 48
+  few = omega (arith, best-short message, ap length is-best, lent .pre .0)
+
+part-spell-from-end : tie.Need-part-spell-from-end
+part-spell-from-end c = simp length-set (omega (arith, lent (c .before) .pre .1 .1))
 
 spell-from-requires : tie.Need-spell-from-requires
 spell-from-requires c κs =
-    let start = c .before .before .before .before .before .before .before .before .before in
-    let plan = c .before .before .before .before .before .plan in
-    (omega (arith, plan .kept .1 .0, start .pre .0), (start .pre .1 .0, (plan .ensures .1, simp (length-take, length-drop, length-set) (omega (arith, few (c .before), start .pre .1 .1)))))
+    let at = c .before .before in
+    let plan = planned at .plan in
+    let pre = lent at .pre in
+    (omega (arith, plan .kept .1 .0, pre .0), (pre .1 .0, (plan .ensures .1, simp (length-take, length-drop, length-set) (omega (arith, few at, pre .1 .1)))))
+
+-- where the values after it are written
+module _ (c : tie.After-spell-from) where
+  abbrev begun : tie.After-start-of
+  begun = c .before .before .before
 
 add-result : tie.Need-add-result
-add-result c = omega (arith, c .before .before .spell-from .ensures .0, few (c .before .before .before .before))
+add-result c = let written = c .before .before in omega (arith, written .spell-from .ensures .0, few (begun written))
 
 same-length : tie.Need-same-length
 same-length c =
-    let start = c .before .before .before .before .before .before .before .before .before .before .before .before in
-    let kept = simp (length-take, length-drop, length-set) at (c .before .before .spell-from .kept .1 .1 .1 .0) in
-    simp (length-append, length-take, length-drop, length-set) (omega (arith, kept, start .pre .1 .1))
+    let written = c .before .before in
+    let kept = simp (length-take, length-drop, length-set) at (written .spell-from .kept .1 .1 .1 .0) in
+    simp (length-append, length-take, length-drop, length-set) (omega (arith, kept, lent (begun written) .pre .1 .1))
 
 returns : tie.Need-returns
 returns c =
-    let at = c .before .before .before .before in
-    let start = at .before .before .before .before .before .before .before .before in
+    let at = begun (c .before .before) in
+    let values = lent at .args .values .now in
     let written = c .before .before .spell-from in (
       omega (arith, written .ensures .0, ap length (is-best at)),
-      started (start .args .values .now) (written .last .1 .1 .1 .0) (from (at .before .before .starts-in-c .result) (message at)) (at .before .start-of .result) (written .result) (start .pre .1 .1) (written .ensures .1)
-          ∙ ap (λ (l : List ℕ). l ++ drop (2 + written .result) (start .args .values .now)) (sym (is-best at)),
+      started values (written .last .1 .1 .1 .0) (from (in-c at) (message at)) (start at) (written .result) (lent at .pre .1 .1) (written .ensures .1)
+          ∙ ap (λ (l : List ℕ). l ++ drop (2 + written .result) values) (sym (is-best at)),
     )
 
 pub spell-spec : {M : Type 1} → statement M

@@ -26,34 +26,41 @@ enum-told c = search needs
 same-length : tie.Need-same-length
 same-length c = search needs
 
+-- the answer of `message_in` is looked at
+module _ (c : tie.After-slice-known3) where
+  abbrev answered : tie.After-message-in
+  answered = c .before .before
+
+  abbrev lent : tie.Start
+  lent = answered .before .before .before .before .before
+
+  abbrev widths : List ℕ
+  widths = lent .args .widths .now
+
+  abbrev room : ℕ
+  room = length (lent .args .message .now)
+
 returns : tie.Need-returns
 returns c =
-    let at = c .before .before .before .before in
-    let args = at .before .before .before .before .before .args in
+    let at = c .before .before in
+    let answer = answered at .message-in in
     let f = c .enum-told .given .0 .0 in
-    let is : at .message-in .result ≡ Refused f = c .enum-told .given .1 in
-    fills-passed _ f _ (at .message-in .result) is
-    (reads-refused (args .widths .now) (length (args .message .now)) f (refused-of-answer _ f (sym is ∙ at .message-in .ensures .answer)))
+    let is : answer .result ≡ Refused f = c .enum-told .given .1 in
+    fills-passed _ f _ (answer .result) is (reads-refused (widths at) (room at) f (refused-of-answer _ f (sym is ∙ answer .ensures .answer)))
 
 -- where there is a message
 module _ (c : tie.After-known-told) where
-  abbrev at : tie.After-message-in
-  at = c .before .before .before .before .before
-
-  abbrev start : tie.Start
-  start = at .before .before .before .before .before
-
-  abbrev widths : List ℕ
-  widths = start .args .widths .now
+  abbrev at : tie.After-slice-known3
+  at = c .before .before .before
 
   abbrev own : List ℕ
-  own = at .message-in .last .1 .0
+  own = answered at .message-in .last .1 .0
 
   abbrev count : ℕ
   count = c .before .read .given .0 .0
 
-  front : (messageIn widths ≡ made (take count own)) × (count ≤ length own)
-  front = own-front _ _ own (at .message-in .result) count (c .before .read .given .1) (at .message-in .ensures)
+  front : (messageIn (widths at) ≡ made (take count own)) × (count ≤ length own)
+  front = own-front _ _ own (answered at .message-in .result) count (c .before .read .given .1) (answered at .message-in .ensures)
 
 slice-reshare-prefix-lay : tie.Need-slice-reshare-prefix-lay
 slice-reshare-prefix-lay c = front c .1
@@ -70,11 +77,16 @@ same-length-2 c = search needs
 same-length-3 : tie.Need-same-length-3
 same-length-3 c = search needs
 
+-- where it is laid
+module _ (c : tie.After-lay) where
+  abbrev told : tie.After-known-told
+  told = c .before .before .before
+
 returns-2 : tie.Need-returns-2
 returns-2 c =
-    let told = c .before .before .before .before .before in
-    let room = length (start told .args .message .now) in
-    fills-same _ _ _ _ _ (reads-laying (widths told) room (take (count told) (own told)) (front told .0)) (c .before .before .lay .ensures)
+    let lay = c .before .before in
+    let told = told lay in
+    fills-same _ _ _ _ _ (reads-laying (widths (at told)) (room (at told)) (take (count told) (own told)) (front told .0)) (lay .lay .ensures)
 
 pub read-in-spec : {M : Type 1} → statement M
 read-in-spec =

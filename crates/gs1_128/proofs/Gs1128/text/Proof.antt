@@ -51,13 +51,32 @@ enum-told-2 c = search needs
 same-length : tie.Need-same-length
 same-length c = search needs
 
+-- where the scan has answered
+module _ (c : tie.After-slice-known3) where
+  abbrev scan : tie.After-values-in
+  scan = c .before .before
+
+  abbrev lent : tie.Start
+  lent = scan .before .before .before .before .before
+
+  abbrev start : ℕ
+  start = lent .args .self .start
+
+  abbrev n : ℕ
+  n = lent .args .self .count
+
+  abbrev widths : List ℕ
+  widths = lent .args .widths .now
+
+  abbrev values : List ℕ
+  values = scan .values-in .last .1 .1 .0
+
 returns : tie.Need-returns
 returns c =
-    let at = c .before .before .before .before in
-    let args = at .before .before .before .before .before .args in
+    let at = c .before .before in
     let f = c .enum-told2 .given .0 .0 in
-    let is : at .values-in .result ≡ Refused f = c .enum-told2 .given .1 in
-    own-passed _ _ _ f _ is (text-refused (args .self .start) (args .widths .now) f (refused-of-answer _ f (sym is ∙ at .values-in .ensures .answer)))
+    let is : scan at .values-in .result ≡ Refused f = c .enum-told2 .given .1 in
+    own-passed _ _ _ f _ is (text-refused (start at) (widths at) f (refused-of-answer _ f (sym is ∙ scan at .values-in .ensures .answer)))
 
 sub-text-of : tie.Need-sub-text-of
 sub-text-of c = search needs
@@ -79,43 +98,46 @@ same-length-3 c = search needs
 
 -- where every character was found
 module _ (c : tie.After-enum-told) where
-  abbrev at : tie.After-values-in
-  at = c .before .before .before .before
+  abbrev at : tie.After-slice-known3
+  at = c .before .before
 
-  abbrev start : ℕ
-  start = at .before .before .before .before .before .args .self .start
+  count-is : countOf (widths at) ≡ n at
+  count-is = omega (arith, lent at .pre)
 
-  abbrev n : ℕ
-  n = at .before .before .before .before .before .args .self .count
-
-  abbrev widths : List ℕ
-  widths = at .before .before .before .before .before .args .widths .now
-
-  abbrev values : List ℕ
-  values = at .values-in .last .1 .1 .0
-
-  count-is : countOf widths ≡ n
-  count-is = omega (arith, at .before .before .before .before .before .pre)
-
-  scanned : valuesIn start widths ≡ made values
+  scanned : valuesIn (start at) (widths at) ≡ made (values at)
   scanned =
-      own-made (valuesIn start widths) _ values (at .values-in .result) (c .enum-told .given .0 .0) (c .enum-told .given .1) (at .values-in .ensures)
-      (λ xs e. values-count start widths xs e ∙ simp length-take (omega (arith, count-is, at .before .before .before .before .before .pre)))
+      let answer = scan at .values-in in
+      let told = c .enum-told .given in
+      own-made (valuesIn (start at) (widths at)) _ (values at) (answer .result) (told .0 .0) (told .1) (answer .ensures)
+      (λ xs e. values-count (start at) (widths at) xs e ∙ simp length-take (omega (arith, count-is, lent at .pre)))
 
-  text-is : textIn start widths ≡ decoded start (drop 1 (take n values))
-  text-is = text-decoded start widths values scanned ∙ ap (λ (k : ℕ). decoded start (drop 1 (take k values))) count-is
+  text-is : textIn (start at) (widths at) ≡ decoded (start at) (drop 1 (take (n at) (values at)))
+  text-is = text-decoded (start at) (widths at) (values at) scanned ∙ ap (λ (k : ℕ). decoded (start at) (drop 1 (take k (values at)))) count-is
+
+  enough : n at ≤ length (values at)
+  enough = omega (arith, values-count (start at) (widths at) (values at) scanned, count-is)
+
+-- what the reader is handed
+module _ (c : tie.After-text-of) where
+  abbrev told : tie.After-enum-told
+  told = c .before .before .before .before
+
+  abbrev room : ℕ
+  room = length (lent (at told) .args .text .now)
+
+  abbrev rest : List ℕ
+  rest = drop (n (at told) + 1 - 0) (lent (at told) .args .values .now)
 
 returns-2 : tie.Need-returns-2
 returns-2 c =
-    let told = c .before .before .before .before .before .before in
-    let args = at told .before .before .before .before .before .args in
-    let room = length (args .text .now) in
-    let rest = drop (n told + 1 - 0) (args .values .now) in
-    own-of-fills _ (decodedInto (start told) (take (n told - 1) (drop 1 (values told ++ rest))) room) _ _ _
-    (text-is told
-    ∙ sym (decoded-into-48 (start told) (drop 1 (take (n told) (values told))) room (omega (arith, at told .before .before .before .before .before .pre)))
-    ∙ ap (λ (vs : List ℕ). decodedInto (start told) vs room) (sym (between (n told) (values told) rest (omega (arith, at told .before .before .before .before .before .pre)) (omega (arith, values-count (start told) (widths told) (values told) (scanned told), count-is told)))))
-    (c .before .before .text-of .ensures)
+    let read = c .before .before in
+    let at = at (told read) in
+    own-of-fills _ (decodedInto (start at) (take (n at - 1) (drop 1 (values at ++ rest read))) (room read)) _ _ _
+    (text-is (told read)
+    ∙ sym (decoded-into-48 (start at) (drop 1 (take (n at) (values at))) (room read) (omega (arith, lent at .pre)))
+    ∙ ap (λ (vs : List ℕ). decodedInto (start at) vs (room read))
+    (sym (between (n at) (values at) (rest read) (omega (arith, lent at .pre)) (enough (told read)))))
+    (read .text-of .ensures)
 
 pub text-spec : {M : Type 1} → statement M
 text-spec =

@@ -30,22 +30,32 @@ enum-told c = search needs
 enum-told-2 : tie.Need-enum-told-2
 enum-told-2 c = search needs
 
+-- what the call was lent
+module _ (c : tie.After-test) where
+  abbrev lent : tie.Start
+  lent = c .before .before .before
+
 returns : tie.Need-returns
 returns c =
-    let start = c .before .before .before .before .before in
-    let message = start .args .message .now in
+    let at = c .before .before in
+    let message = lent at .args .message .now in
     let f = c .enum-told2 .given .0 .0 in
-    let test = c .before .before .test in
-    let is : test .result ≡ Refused f = c .enum-told2 .given .1 in
-    fills-passed _ f _ (test .result) is (write-refused message _ f (refused-of-answer (tested message) f (sym is ∙ test .ensures)))
+    let is : at .test .result ≡ Refused f = c .enum-told2 .given .1 in
+    fills-passed _ f _ (at .test .result) is (write-refused message _ f (refused-of-answer (tested message) f (sym is ∙ at .test .ensures)))
 
 -- where the message has passed
 module _ (c : tie.After-enum-told) where
+  abbrev at : tie.After-test
+  at = c .before .before
+
   abbrev message : List ℕ
-  message = c .before .before .before .before .before .args .message .now
+  message = lent at .args .message .now
+
+  abbrev room : ℕ
+  room = length (lent at .args .widths .now)
 
   passed : (strings : List Element) × (tested message ≡ made strings) × (length strings ≡ c .enum-told .given .0 .0)
-  passed = made-of-answer (tested message) (c .enum-told .given .0 .0) (sym (c .enum-told .given .1) ∙ c .before .before .test .ensures)
+  passed = made-of-answer (tested message) (c .enum-told .given .0 .0) (sym (c .enum-told .given .1) ∙ at .test .ensures)
 
   accepted : Accepted message (passed .0)
   accepted = tested-made message (passed .0) (passed .1)
@@ -57,10 +67,17 @@ characters-of-requires : tie.Need-characters-of-requires
 characters-of-requires c κs = let a = accepted (c .before) in (a .most, (a .bytes, refl))
 
 -- the characters at the front of the call's own list
-front : (c : tie.After-characters-of) → take (c .characters-of .result - 0) (c .characters-of .last .1 .0) ≡ checked (bestSpelling (message (c .before .before)))
-front c =
-    let all : c .characters-of .result - 0 ≡ c .characters-of .result = omega arith in
-    ap (λ (n : ℕ). take n (c .characters-of .last .1 .0)) all ∙ c .characters-of .ensures .1
+module _ (c : tie.After-characters-of) where
+  abbrev told : tie.After-enum-told
+  told = c .before .before
+
+  abbrev own : List ℕ
+  own = take (c .characters-of .result - 0) (c .characters-of .last .1 .0)
+
+  front : own ≡ checked (bestSpelling (message told))
+  front =
+      let all : c .characters-of .result - 0 ≡ c .characters-of .result = omega arith in
+      ap (λ (n : ℕ). take n (c .characters-of .last .1 .0)) all ∙ c .characters-of .ensures .1
 
 sub-draw : tie.Need-sub-draw
 sub-draw c = search needs
@@ -71,13 +88,18 @@ part-draw-start c = search needs
 part-draw-end : tie.Need-part-draw-end
 part-draw-end c =
     let made-them = c .before .before in
-    let told = made-them .before .before in
+    let told = told made-them in
     omega (arith, made-them .characters-of .ensures .0, made-them .characters-of .kept .1 .0, characters-are-few (message told) (accepted told))
+
+-- where they are handed on
+module _ (c : tie.After-draw-arg2) where
+  abbrev characters-made : tie.After-characters-of
+  characters-made = c .before .before .before .before
 
 draw-requires : tie.Need-draw-requires
 draw-requires c κs =
-    let made-them = c .before .before .before .before in
-    let told = made-them .before .before in
+    let made-them = characters-made c in
+    let told = told made-them in
     rw (front made-them) (characters-are-few (message told) (accepted told), characters-have-patterns (message told) (accepted told))
 
 same-length : tie.Need-same-length
@@ -85,15 +107,14 @@ same-length c = search needs
 
 returns-2 : tie.Need-returns-2
 returns-2 c =
-    let made-them = c .before .before .before .before .before .before .before in
-    let told = made-them .before .before in
-    let room = length (told .before .before .before .before .before .args .widths .now) in
-    let own = take (made-them .characters-of .result - 0) (made-them .characters-of .last .1 .0) in
-    fills-same _ (laying (drawn patterns own ++ stop) room) _ _ _
-    (write-made (message told) room (passed told .0) (passed told .1)
-    ∙ ap (λ (widths : List ℕ). laying widths room)
+    let draw = c .before .before in
+    let made-them = characters-made (draw .before) in
+    let told = told made-them in
+    fills-same _ (laying (drawn patterns (own made-them) ++ stop) (room told)) _ _ _
+    (write-made (message told) (room told) (passed told .0) (passed told .1)
+    ∙ ap (λ (widths : List ℕ). laying widths (room told))
     (symbol-of-best (message told) (accepted told) ∙ ap (λ (characters : List ℕ). drawn patterns characters ++ stop) (sym (front made-them))))
-    (c .before .before .draw .ensures)
+    (draw .draw .ensures)
 
 pub write-spec : {M : Type 1} → statement M
 write-spec =

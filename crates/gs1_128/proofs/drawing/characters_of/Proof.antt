@@ -34,40 +34,46 @@ slice-read-check-of c = search needs
 
 -- where the spelling stands at the front
 module _ (c : tie.After-slice-known3) where
+  abbrev spelling : tie.After-spell
+  spelling = c .before .before .before
+
+  abbrev lent : tie.Start
+  lent = spelling .before .before .before .before
+
   abbrev message : List ℕ
-  message = c .before .before .before .before .before .before .before .args .message .now
+  message = lent .args .message .now
 
   abbrev before-it : List ℕ
-  before-it = c .before .before .before .before .before .before .before .args .characters .now
+  before-it = lent .args .characters .now
 
   abbrev count : ℕ
-  count = c .before .before .before .spell .result
+  count = spelling .spell .result
 
   abbrev list : List ℕ
-  list = c .before .before .before .spell .last .1 .0 ++ drop 50 before-it
+  list = spelling .spell .last .1 .0 ++ drop 50 before-it
 
   spelled : Spelled (bestSpelling message) message
-  spelled = best-is-spelled message (c .before .before .before .before .before .before .before .pre .1 .0)
+  spelled = best-is-spelled message (lent .pre .1 .0)
 
   abbrev behind : List ℕ
   behind = drop count (take 50 before-it) ++ drop 50 before-it
 
   is : list ≡ (spelled .start ∷ 102 ∷ spelled .values) ++ behind
   is =
-      ap (λ (l : List ℕ). l ++ drop 50 before-it) (c .before .before .before .spell .ensures .1)
+      ap (λ (l : List ℕ). l ++ drop 50 before-it) (spelling .spell .ensures .1)
       ∙ append-assoc (bestSpelling message) (drop count (take 50 before-it)) (drop 50 before-it)
       ∙ ap (λ (l : List ℕ). l ++ behind) (spelled .is)
 
   counts : count ≡ suc (length (102 ∷ spelled .values))
-  counts = c .before .before .before .spell .ensures .0 ∙ ap length (spelled .is)
+  counts = spelling .spell .ensures .0 ∙ ap length (spelled .is)
 
   few : count ≤ 50
-  few = omega (arith, c .before .before .before .spell .ensures .0, best-short message, c .before .before .before .before .before .before .before .pre .0)
+  few = omega (arith, spelling .spell .ensures .0, best-short message, lent .pre .0)
 
   long : length list ≡ 51
   long =
-      let kept = c .before .before .before .spell .kept .1 .0 in
-      simp (length-append, length-drop) (omega (arith, simp (length-take, length-drop) at kept, c .before .before .before .before .before .before .before .pre .1 .1))
+      let kept = spelling .spell .kept .1 .0 in
+      simp (length-append, length-drop) (omega (arith, simp (length-take, length-drop) at kept, lent .pre .1 .1))
 
   start-is : getD list 0 0 ≡ spelled .start
   start-is = first-is list (spelled .start) (102 ∷ spelled .values) behind is count counts

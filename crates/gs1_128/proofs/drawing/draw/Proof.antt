@@ -16,6 +16,17 @@ use Rattle.gs1_128.proofs.DrawnLaws.{length-drawn, length-stopped, fill
 use Rattle.gs1_128.proofs.drawing.draw.Statement.{statement}
 use Rattle.gs1_128.proofs.drawing.draw.Tie as tie
 
+-- what the call was lent
+module _ (c : tie.After-slice-known) where
+  abbrev lent : tie.Start
+  lent = c .before .before
+
+  abbrev characters : List ℕ
+  characters = lent .args .characters .now
+
+  abbrev widths : List ℕ
+  widths = lent .args .widths .now
+
 mul-end : tie.Need-mul-end
 mul-end c = search needs
 
@@ -24,10 +35,9 @@ add-count c = search needs
 
 returns : tie.Need-returns
 returns c =
-    let start = c .before .before .before in
-    let characters = start .args .characters .now in
+    let at = c .before in
     fills-refused _ Room _
-    (laying-refused (drawn patterns characters ++ stop) (length (start .args .widths .now)) (omega (arith, length-stopped characters (start .pre .1))))
+    (laying-refused (drawn patterns (characters at) ++ stop) (length (widths at)) (omega (arith, length-stopped (characters at) (lent at .pre .1))))
 
 sub-draw-characters : tie.Need-sub-draw-characters
 sub-draw-characters c = search needs
@@ -40,8 +50,8 @@ part-draw-characters-end c = search needs
 
 draw-characters-requires : tie.Need-draw-characters-requires
 draw-characters-requires c κs =
-    let start = c .before .before .before .before in
-    (start .pre .0, (start .pre .1, simp length-take (omega arith)))
+    let pre = lent (c .before .before) .pre in
+    (pre .0, (pre .1, simp length-take (omega arith)))
 
 slice-aggregate-lay : tie.Need-slice-aggregate-lay
 slice-aggregate-lay c = search needs
@@ -61,21 +71,32 @@ lay-requires c κs = search needs
 same-length : tie.Need-same-length
 same-length c = search needs
 
+-- where the stop is laid after the characters
+module _ (c : tie.After-lay) where
+  abbrev drew : tie.After-draw-characters
+  drew = c .before .before .before .before .before
+
+  abbrev entered : tie.After-slice-known
+  entered = drew .before .before .before
+
 returns-2 : tie.Need-returns-2
 returns-2 c =
-    let start = c .before .before .before .before .before .before .before .before .before .before .before .before in
-    let characters = start .args .characters .now in
-    let widths = start .args .widths .now in
+    let laid = c .before .before in
+    let at = entered laid in
+    let characters = characters at in
+    let widths = widths at in
+    let right = lent at .pre .1 in
     let end = 6 * length characters in
     let symbol = drawn patterns characters ++ stop in
-    let long = length-stopped characters (start .pre .1) in
-    let drawing = c .before .before .before .before .before .before .before .draw-characters in
+    let long = length-stopped characters right in
+    let drawing = drew laid .draw-characters in
     fills-same _ (made symbol) widths _ _ (laying-made symbol (length widths) (omega arith))
     (record {
       answer = ap Done (sym long);
       lent =
-          filled (drawing .last .1 .0) widths end (omega arith) (ap length (drawing .ensures) ∙ length-drawn characters (start .pre .1)) (end - 0) (end + 7 - end) (omega arith) (omega arith)
-          (c .before .before .lay .last .1 .0) (c .before .before .lay .ensures .lent)
+          filled (drawing .last .1 .0) widths end (omega arith) (ap length (drawing .ensures) ∙ length-drawn characters right)
+          (end - 0) (end + 7 - end) (omega arith) (omega arith)
+          (laid .lay .last .1 .0) (laid .lay .ensures .lent)
           ∙ ap₂ (λ (front : List ℕ) (n : ℕ). (front ++ stop) ++ drop n widths) (drawing .ensures) (sym long);
     })
 

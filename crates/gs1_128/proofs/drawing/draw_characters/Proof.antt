@@ -69,11 +69,23 @@ part-put-pattern-start c = omega arith
 part-put-pattern-end : tie.Need-part-put-pattern-end Inv-loop μ-loop
 part-put-pattern-end c = omega arith
 
+-- what the call was lent
+module _ (c : tie.At-loop Inv-loop μ-loop) where
+  abbrev lent : tie.Start Inv-loop μ-loop
+  lent = c .before .before .before
+
+  abbrev characters : List ℕ
+  characters = lent .args .characters .now
+
 put-pattern-requires : tie.Need-put-pattern-requires Inv-loop μ-loop
 put-pattern-requires c κs =
     let loop = c .before .before .before in
-    let start = loop .before .before .before in
-    (start .pre .1 .0 (loop .loop .i) (omega arith), simp (length-take, length-drop) (omega arith))
+    (lent loop .pre .1 .0 (loop .loop .i) (omega arith), simp (length-take, length-drop) (omega arith))
+
+-- where a pattern has been put
+module _ (c : tie.After-put-pattern Inv-loop μ-loop) where
+  abbrev turn : tie.At-loop Inv-loop μ-loop
+  turn = c .before .before .before .before
 
 add-i : tie.Need-add-i Inv-loop μ-loop
 add-i c = omega arith
@@ -83,8 +95,8 @@ loop-less c = omega arith
 
 loop-again : tie.Need-loop-again Inv-loop μ-loop
 loop-again c =
-    let at = c .before .before .before .before .before .before in
-    let characters = at .before .before .before .args .characters .now in
+    let at = turn (c .before .before) in
+    let characters = characters at in
     let put = c .before .before .put-pattern in
     let pattern = put .last .1 .0 in
     let i = at .loop .i in
@@ -96,12 +108,12 @@ loop-again c =
     )
 
 same-length : tie.Need-same-length Inv-loop μ-loop
-same-length c = omega (arith, c .before .before .before .before .pre .1 .1)
+same-length c = omega (arith, lent (c .before) .pre .1 .1)
 
 returns : tie.Need-returns Inv-loop μ-loop
 unfolding drawn
 returns c =
-    let characters = c .before .before .before .before .args .characters .now in
+    let characters = characters (c .before) in
     let loop = c .before .loop in
     let over : loop .i ≡ length characters = omega arith in
     let none : drop (loop .i) characters ≡ [] = drop-of-length-le characters {i = loop .i} (omega arith) in

@@ -20,23 +20,31 @@ enum-known-found c = search needs
 enum-told : tie.Need-enum-told
 enum-told c = search needs
 
+-- what the matcher is handed
+module _ (c : tie.After-value-of) where
+  abbrev handed : List ℕ
+  handed = take 6 (c .before .before .args .part .now)
+
 returns : tie.Need-returns
 returns c =
     let at = c .before .before in
-    let six = take 6 (at .before .before .args .part .now) in
+    let six = handed at in
     let told = c .enum-told .given .1 in
     told ∙ allowed-missing six (omega (arith, unmatched six (sym told ∙ at .value-of .ensures)))
 
 -- where the matcher found a value
 module _ (c : tie.After-known-told) where
+  abbrev at : tie.After-value-of
+  at = c .before .before .before
+
   abbrev six : List ℕ
-  six = take 6 (c .before .before .before .before .before .args .part .now)
+  six = handed at
 
   abbrev value : ℕ
   value = c .before .found .given .0 .0
 
   found : (valueIn patterns six ≡ value) × (value < 106)
-  found = matched six value (sym (c .before .found .given .1) ∙ c .before .before .before .value-of .ensures)
+  found = matched six value (sym (c .before .found .given .1) ∙ at .value-of .ensures)
 
 returns-2 : tie.Need-returns-2
 returns-2 c = allowed-missing (six (c .before)) (omega (arith, found (c .before) .0))

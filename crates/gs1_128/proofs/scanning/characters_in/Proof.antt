@@ -71,19 +71,27 @@ enum-told c = search needs
 same-length : tie.Need-same-length Inv-loop μ-loop
 same-length c = omega arith
 
+-- what the call was lent
+module _ (c : tie.At-loop Inv-loop μ-loop) where
+  abbrev lent : tie.Start Inv-loop μ-loop
+  lent = c .before .before .before
+
 -- a turn of the loop, from where the matcher has answered
 module _ (c : tie.After-allowed-value Inv-loop μ-loop) where
+  abbrev turn : tie.At-loop Inv-loop μ-loop
+  turn = c .before .before .before
+
   abbrev widths : List ℕ
-  widths = c .before .before .before .before .before .before .args .widths .now
+  widths = lent turn .args .widths .now
 
   abbrev count : ℕ
-  count = length (c .before .before .before .before .before .before .args .values .now)
+  count = length (lent turn .args .values .now)
 
   abbrev values : List ℕ
-  values = c .before .before .before .loop .values
+  values = turn .loop .values
 
   abbrev i : ℕ
-  i = c .before .before .before .loop .i
+  i = turn .loop .i
 
   -- what the matcher is handed
   abbrev handed : List ℕ
@@ -93,7 +101,7 @@ module _ (c : tie.After-allowed-value Inv-loop μ-loop) where
   same-value = ap (valueIn allowed) (sym (part-is widths i (6 * (i + 1) + 6 - 6 * (i + 1)) (omega arith)))
 
   so-far : ScannedTo allowed 6 count 1 (drop 6 widths) i values
-  so-far = c .before .before .before .loop .inv .2
+  so-far = turn .loop .inv .2
 
 returns : tie.Need-returns Inv-loop μ-loop
 returns c =
@@ -139,7 +147,7 @@ same-length-2 c = omega arith
 
 returns-2 : tie.Need-returns-2 Inv-loop μ-loop
 returns-2 c =
-    let args = c .before .before .before .before .args in
+    let args = lent (c .before) .args in
     let loop = c .before .loop in
     let n = length (args .values .now) in
     let over : loop .i ≡ n = omega arith in

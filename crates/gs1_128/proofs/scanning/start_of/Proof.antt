@@ -68,23 +68,31 @@ enum-known-found c = search needs
 enum-told : tie.Need-enum-told
 enum-told c = search needs
 
+-- where the matcher has answered
+module _ (c : tie.After-value-of) where
+  abbrev lent : tie.Start
+  lent = c .before .before .before
+
 returns : tie.Need-returns
 returns c =
     let at = c .before .before in
-    let widths = at .before .before .before .args .widths .now in
+    let widths = lent at .args .widths .now in
     let none = unmatched (take 6 (take 6 widths)) (sym (c .enum-told .given .1) ∙ at .value-of .ensures) in
     sym (ap answered (no-start-there widths (omega (arith, above widths 106 none (omega arith)))))
 
 -- a value that was found
 module _ (c : tie.After-known-told) where
+  abbrev at : tie.After-value-of
+  at = c .before .before .before
+
   abbrev widths : List ℕ
-  widths = c .before .before .before .before .before .before .args .widths .now
+  widths = lent at .args .widths .now
 
   abbrev start : ℕ
   start = c .before .found .given .0 .0
 
   found : (valueIn patterns (take 6 (take 6 widths)) ≡ start) × (start < 106)
-  found = matched (take 6 (take 6 widths)) start (sym (c .before .found .given .1) ∙ c .before .before .before .value-of .ensures)
+  found = matched (take 6 (take 6 widths)) start (sym (c .before .found .given .1) ∙ at .value-of .ensures)
 
 returns-2 : tie.Need-returns-2
 returns-2 c = sym (ap answered (no-start-there (widths (c .before)) (below (widths (c .before)) (start (c .before)) (found (c .before) .0) (c .if1 .taken))))

@@ -22,20 +22,28 @@ use Rattle.gs1_128.proofs.scanning.values_in.Tie as tie
 
 -- where the characters have been scanned
 module _ (c : tie.After-characters-in) where
+  abbrev lent : tie.Start
+  lent = c .before .before .before .before
+
   abbrev start : ℕ
-  start = c .before .before .before .before .args .start
+  start = lent .args .start
 
   abbrev widths : List ℕ
-  widths = c .before .before .before .before .args .widths .now
+  widths = lent .args .widths .now
 
   abbrev before : List ℕ
-  before = c .before .before .before .before .args .values .now
+  before = lent .args .values .now
 
   abbrev after : List ℕ
   after = c .characters-in .last .1 .0
 
   count-is : countOf widths + 1 ≡ length before
-  count-is = omega (arith, c .before .before .before .before .pre)
+  count-is = omega (arith, lent .pre)
+
+-- their answer is looked at
+module _ (c : tie.After-slice-known2) where
+  abbrev answered : tie.After-characters-in
+  answered = c .before .before
 
 characters-in-requires : tie.Need-characters-in-requires
 characters-in-requires c κs = search needs
@@ -51,7 +59,7 @@ same-length c = search needs
 
 returns : tie.Need-returns
 returns c =
-    let at = c .before .before .before .before in
+    let at = answered (c .before .before) in
     let f = c .enum-told2 .given .0 .0 in
     let is : at .characters-in .result ≡ Refused f = c .enum-told2 .given .1 in
     own-passed _ _ _ f _ is
@@ -60,7 +68,7 @@ returns c =
 -- where each was found
 module _ (c : tie.After-enum-told) where
   abbrev at : tie.After-characters-in
-  at = c .before .before .before .before
+  at = answered (c .before .before)
 
   scanned : characters allowed 6 (length (before at)) 1 (drop 6 (widths at)) ≡ made (after at)
   scanned =
@@ -80,7 +88,7 @@ slice-read-if1 : tie.Need-slice-read-if1
 slice-read-if1 c = search needs
 
 cast-if1 : tie.Need-cast-if1
-cast-if1 c = omega (arith, c .slice-known3 .given (length (after (c .before .before .before .before .before)) - 1))
+cast-if1 c = omega (arith, c .slice-known3 .given (length (after (at (c .before))) - 1))
 
 sub-check-of : tie.Need-sub-check-of
 sub-check-of c = search needs
