@@ -97,6 +97,26 @@ module _ (count : ℕ) (symbol : List ℕ → List ℕ) (number : List ℕ) (roo
   unfolding numberWritten
   written-refused f e = rw e
 
+-- what was written is the symbol of the number's digits, so equal numbers have equal bars, whatever the room
+module _ (count : ℕ) (symbol : List ℕ → List ℕ) where
+  pub written-symbol : (number widths : List ℕ) (room : ℕ) → numberWritten count symbol number room ≡ made widths → (symbol (map valueOf number) ≡ widths) × RightNumber count number (map valueOf number)
+  unfolding numberWritten
+  written-symbol number widths room e =
+      let w = bind-made (rightNumber count number) (λ (ds : List ℕ). laying (symbol ds) room) widths e in
+      let r = right-made count number (w .0) (w .1) in (
+        ap symbol (sym (r .values)) ∙ made-of-laying (symbol (w .0)) widths room (w .2) .1,
+        subst (λ (ds : List ℕ). RightNumber count number ds) (r .values) r,
+      )
+
+  pub equal-bars : (number widths widths′ : List ℕ) (room room′ : ℕ) → numberWritten count symbol number room ≡ made widths → numberWritten count symbol number room′ ≡ made widths′ → widths ≡ widths′
+  equal-bars number widths widths′ room room′ e e′ = sym (written-symbol number widths room e .0) ∙ written-symbol number widths′ room′ e′ .0
+
+  -- what holds of the symbol of any digits holds of what was written
+  pub of-written : (P : List ℕ → Type 0) → ((ds : List ℕ) → length ds ≡ count → Below 10 ds → P (symbol ds)) → (number widths : List ℕ) (room : ℕ) → numberWritten count symbol number room ≡ made widths → P widths
+  of-written P of-symbol number widths room e =
+      let w = written-symbol number widths room e in
+      subst P (w .0) (of-symbol (map valueOf number) (length-map number valueOf ∙ w .1 .counted) (values-are-digits number (w .1 .all)))
+
 module _ (scanned : Outcome (List ℕ)) (room : ℕ) where
   pub read-made : (ds : List ℕ) → scanned ≡ made ds → isRight ds ≡ true → numberRead scanned room ≡ laying (map byteOf ds) room
   unfolding numberRead
@@ -131,6 +151,11 @@ module _ (count : ℕ) (symbol : List ℕ → List ℕ) (scanned : List ℕ → 
       read-made (scanned widths) room′ ds scan (r .right)
       ∙ laying-made (map byteOf ds) room′ (rw length-map (omega arith))
       ∙ ap made (ap (map byteOf) (r .values) ∙ bytes-of-values number (r .all))
+
+  -- so no two numbers have the same bars
+  pub one-number : ((ds : List ℕ) → length ds ≡ count → Below 10 ds → scanned (symbol ds) ≡ made ds) → (number number′ widths : List ℕ) (room room′ : ℕ) → numberWritten count symbol number room ≡ made widths → numberWritten count symbol number′ room′ ≡ made widths → number ≡ number′
+  one-number back number number′ widths room room′ e e′ =
+      made-same number number′ (sym (read-of-write back number widths room count e (omega arith)) ∙ read-of-write back number′ widths room′ count e′ (omega arith))
 
   pub write-of-read : ((widths ds : List ℕ) → scanned widths ≡ made ds → (symbol ds ≡ widths) × (length ds ≡ count) × Below 10 ds) → (widths number : List ℕ) (room room′ : ℕ) → numberRead (scanned widths) room ≡ made number → length widths ≤ room′ → numberWritten count symbol number room′ ≡ made widths
   unfolding numberRead

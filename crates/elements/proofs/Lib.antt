@@ -1,8 +1,8 @@
 -- Laws of the rules, in the order in which they build on each other; then theorem 4 for the test of a message, and the examples.
 --
---   StringLaws     one element string: where its data ends, where the next must begin
---   CountLaws      what the calls on one string answer; strings counted by a walk
---   CutLaws        bytes that stand at a place, as the string that is found there
+--   StringLaws     one element string where one must begin
+--   CountLaws      a message, a string at a time, as a loop that counts them meets it
+--   CutLaws        a message, cut where its strings end
 --   PlainLaws      right data has no separator in it, and only bytes of a message
 --   FromRule       what the rule accepts is a message by the relation
 --   FromRelation   and the rule accepts every such message

@@ -1,10 +1,10 @@
 -- Laws of the table and of its data, in the order in which they build on each other.
 --
---   ListedLaws     a test that every row passes, every listed identifier's kind passes; no listed identifier begins with another's digits
---   SpelledLaws    an identifier's digits, and the number that they make
---   DecisionLaws   its first two digits say how many an identifier has, so one look finds the row
---   RowLaws        the gaps between the rows: what no arm of the table's `match` names is not listed
---   DataLaws       the tests of data against the rule; every row is sized
+--   ListedLaws     the listed identifiers; none begins with another's digits
+--   SpelledLaws    an identifier and its digits give one another
+--   DecisionLaws   the first two digits decide how many there are, so one look finds the row
+--   RowLaws        a row by its place in the table; a number between the listed ones has none
+--   DataLaws       the tests of data, read backwards; a kind's sizes
 pub mod ListedLaws
 pub mod SpelledLaws
 pub mod DecisionLaws

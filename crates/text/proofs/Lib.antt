@@ -1,4 +1,9 @@
 -- Laws of numbers as text.
+--
+--   Back          a number written and read again is the same
+--   DecimalLaws   the digits of a number, met by a function that calls itself
+--   NumeralLaws   a numeral, read from the left by a loop
+--   PutsLaws      text put together from parts
 pub mod Back
 pub mod DecimalLaws
 pub mod NumeralLaws

@@ -17,6 +17,14 @@ use Rattle.asking.proofs.ask.Tie as tie
 find-requires : tie.Need-find-requires
 find-requires c κs = search needs
 
+-- the string was looked for
+module _ (c : tie.After-find) where
+  abbrev message : List ℕ
+  message = c .before .before .args .message .now
+
+  abbrev x : ℕ
+  x = c .before .before .args .identifier
+
 enum-known-element : tie.Need-enum-known-element
 enum-known-element c = search needs
 
@@ -28,26 +36,22 @@ slice-aggregate-result c = search needs
 
 returns : tie.Need-returns
 returns c =
-    let message = c .before .before .before .before .before .args .message .now in
-    let x = c .before .before .before .before .before .args .identifier in
-    sym (ap (partOf message) (found-refused (asked message x) _ (sym (c .before .enum-told .given .1) ∙ c .before .before .before .find .ensures)))
+    let at = c .before .before .before in
+    sym (ap (partOf (message at)) (found-refused (asked (message at) (x at)) _ (sym (c .before .enum-told .given .1) ∙ at .find .ensures)))
 
 -- a string was found
 module _ (c : tie.After-element) where
-  abbrev message : List ℕ
-  message = c .before .before .before .before .args .message .now
-
-  abbrev x : ℕ
-  x = c .before .before .before .before .args .identifier
+  abbrev at : tie.After-find
+  at = c .before .before
 
   abbrev string : Element
   string = c .element .given .0 .0
 
-  is-asked : asked message x ≡ made string
-  is-asked = found-string (asked message x) string (sym (c .element .given .1) ∙ c .before .before .find .ensures)
+  is-asked : asked (message at) (x at) ≡ made string
+  is-asked = found-string (asked (message at) (x at)) string (sym (c .element .given .1) ∙ at .find .ensures)
 
-  inside : string .begin + string .length ≤ length message
-  inside = part-within message string (asked-stands message x string is-asked)
+  inside : string .begin + string .length ≤ length (message at)
+  inside = part-within (message at) string (asked-stands (message at) (x at) string is-asked)
 
 add-end : tie.Need-add-end
 add-end c = omega (arith, inside (c .before .before))
@@ -64,7 +68,8 @@ part-result-end c = inside (c .before .before)
 returns-2 : tie.Need-returns-2
 returns-2 c =
     let e = c .before .before .before in
-    ap (λ (n : ℕ). take n (drop (string e .begin) (message e))) (add-sub-cancel-left (string e .begin) (string e .length)) ∙ sym (ap (partOf (message e)) (is-asked e))
+    let bytes = message (at e) in
+    ap (λ (n : ℕ). take n (drop (string e .begin) bytes)) (add-sub-cancel-left (string e .begin) (string e .length)) ∙ sym (ap (partOf bytes) (is-asked e))
 
 pub ask-spec : {M : Type 1} → statement M
 ask-spec =

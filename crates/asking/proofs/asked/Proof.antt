@@ -12,6 +12,11 @@ use Rattle.asking.proofs.asked.Tie as tie
 find-requires : tie.Need-find-requires
 find-requires c κs = search needs
 
+-- what was asked for, where it was looked for
+module _ (c : tie.After-find) where
+  abbrev answer : Outcome Element
+  answer = asked (c .before .before .args .message .now) (c .before .before .args .identifier)
+
 enum-known-found : tie.Need-enum-known-found
 enum-known-found c = search needs
 
@@ -20,14 +25,14 @@ enum-known-found-2 c = search needs
 
 returns : tie.Need-returns
 returns c =
-    let start = c .before .before .before .before .before in
-    let is = found-string (asked (start .args .message .now) (start .args .identifier)) _ (sym (c .before .found .given .1) ∙ c .before .before .before .find .ensures) in
+    let at = c .before .before .before in
+    let is = found-string (answer at) _ (sym (c .before .found .given .1) ∙ at .find .ensures) in
     sym (ap (λ (o : Outcome Element). answered (lengthOf o)) is)
 
 returns-2 : tie.Need-returns-2
 returns-2 c =
-    let start = c .before .before .before .before .before in
-    let is = found-refused (asked (start .args .message .now) (start .args .identifier)) _ (sym (c .before .found2 .given .1) ∙ c .before .before .before .find .ensures) in
+    let at = c .before .before .before in
+    let is = found-refused (answer at) _ (sym (c .before .found2 .given .1) ∙ at .find .ensures) in
     sym (ap (λ (o : Outcome Element). answered (lengthOf o)) is)
 
 pub asked-spec : {M : Type 1} → statement M

@@ -28,6 +28,20 @@ abbrev μ-loop : tie.MeasureT-loop
 loop-holds : tie.Need-loop-holds Inv-loop μ-loop
 loop-holds c = (omega arith, λ strings e. record { rest = strings; from = from-start (c .before .args .message .now) strings e; same = refl })
 
+-- a turn of the loop
+module _ (c : tie.At-loop Inv-loop μ-loop) where
+  abbrev message : List ℕ
+  message = c .before .before .args .message .now
+
+  abbrev x : ℕ
+  x = c .before .before .args .identifier
+
+  abbrev at : ℕ
+  at = c .loop .at
+
+  left : (strings : List Element) → parsed message ≡ made strings → Left message x at strings
+  left = c .loop .inv .1
+
 string-at-requires : tie.Need-string-at-requires Inv-loop μ-loop
 string-at-requires c κs = c .loop .inv .0
 
@@ -39,53 +53,54 @@ enum-known-found-2 c = search needs
 
 returns : tie.Need-returns Inv-loop μ-loop
 returns c =
-    let loop = c .before .before .before .before .loop in
-    let message = c .before .before .before .before .before .before .args .message .now in
-    let x = c .before .before .before .before .before .before .args .identifier in
+    let asked = c .before .before .before in
+    let t = asked .before in
     let f = c .before .found2 .given .0 .0 in
-    let here : stringAt message (loop .at) ≡ refused f = found-refused (stringAt message (loop .at)) f (sym (c .before .found2 .given .1) ∙ c .before .before .before .string-at .ensures) in
-    λ strings e. absurd (never-refused message x (loop .at) strings (loop .inv .1 strings e) f here)
+    let here : stringAt (message t) (at t) ≡ refused f =
+    found-refused (stringAt (message t) (at t)) f (sym (c .before .found2 .given .1) ∙ asked .string-at .ensures) in
+    λ strings e. absurd (never-refused (message t) (x t) (at t) strings (left t strings e) f here)
 
 -- a string was found
 module _ (c : tie.After-found Inv-loop μ-loop) where
-  abbrev message : List ℕ
-  message = c .before .before .before .before .before .args .message .now
-
-  abbrev x : ℕ
-  x = c .before .before .before .before .before .args .identifier
-
-  abbrev at : ℕ
-  at = c .before .before .before .loop .at
+  abbrev turn : tie.At-loop Inv-loop μ-loop
+  turn = c .before .before .before
 
   abbrev string : Element
   string = c .found .given .0 .0
 
-  here : stringAt message at ≡ made string
-  here = found-string (stringAt message at) string (sym (c .found .given .1) ∙ c .before .before .string-at .ensures)
+  here : stringAt (message turn) (at turn) ≡ made string
+  here = found-string (stringAt (message turn) (at turn)) string (sym (c .found .given .1) ∙ c .before .before .string-at .ensures)
 
-  left : (strings : List Element) → parsed message ≡ made strings → Left message x at strings
-  left = c .before .before .before .loop .inv .1
-
-  bounds : string .last ≡ false → (string .next ≤ length message) × (at + 4 ≤ string .next)
-  bounds goes = next-within message at string (c .before .before .before .loop .inv .0) here goes
+  bounds : string .last ≡ false → (string .next ≤ length (message turn)) × (at turn + 4 ≤ string .next)
+  bounds goes = next-within (message turn) (at turn) string (turn .loop .inv .0) here goes
 
 returns-2 : tie.Need-returns-2 Inv-loop μ-loop
 returns-2 c =
     let f = c .before .before .before in
-    λ strings e. sym (ap foundOf (left-here (message f) (x f) (at f) strings (left f strings e) (string f) (here f) (c .if1 .taken)))
+    let t = turn f in
+    λ strings e. sym (ap foundOf (left-here (message t) (x t) (at t) strings (left t strings e) (string f) (here f) (c .if1 .taken)))
+
+-- the string has another identifier
+module _ (c : tie.Else1 Inv-loop μ-loop) where
+  abbrev found : tie.After-found Inv-loop μ-loop
+  found = c .before .before .before
 
 returns-3 : tie.Need-returns-3 Inv-loop μ-loop
 returns-3 c =
-    let f = c .before .before .before .before in
-    λ strings e. sym (ap foundOf (left-none (message f) (x f) (at f) strings (left f strings e) (string f) (here f) (c .before .if1 .left) (c .if2 .taken)))
+    let other = c .before in
+    let f = found other in
+    let t = turn f in
+    λ strings e. sym (ap foundOf (left-none (message t) (x t) (at t) strings (left t strings e) (string f) (here f) (other .if1 .left) (c .if2 .taken)))
 
 loop-less : tie.Need-loop-less Inv-loop μ-loop
-loop-less c = omega (arith, bounds (c .before .before .before .before) (c .if2 .left))
+loop-less c = omega (arith, bounds (found (c .before)) (c .if2 .left))
 
 loop-again : tie.Need-loop-again Inv-loop μ-loop
 loop-again c =
-    let f = c .before .before .before .before in
-    (bounds f (c .if2 .left) .0, λ strings e. left-more (message f) (x f) (at f) strings (left f strings e) (string f) (here f) (c .before .if1 .left) (c .if2 .left))
+    let f = found (c .before) in
+    let t = turn f in
+    let more = c .if2 .left in
+    (bounds f more .0, λ strings e. left-more (message t) (x t) (at t) strings (left t strings e) (string f) (here f) (c .before .if1 .left) more)
 
 pub string-of-spec : {M : Type 1} → statement M
 string-of-spec =

@@ -27,10 +27,15 @@ abbrev μ-loop : tie.MeasureT-loop
 answer-lines-requires : tie.Need-answer-lines-requires Inv-loop μ-loop
 answer-lines-requires c κs = omega arith
 
+-- the first lines are answered
+module _ (c : tie.After-answer-lines Inv-loop μ-loop) where
+  abbrev lent : tie.Start Inv-loop μ-loop
+  lent = c .before .before .before .before
+
 loop-holds : tie.Need-loop-holds Inv-loop μ-loop
 loop-holds c =
     let done = c .before .before .answer-lines in
-    let args = c .before .before .before .before .before .before .args in (
+    let args = lent (c .before .before) .args in (
       refl,
       omega arith,
       done .ensures .1 .0 .1,
@@ -54,15 +59,20 @@ write-all-requires c κs = tt
 answer-lines-requires-2 : tie.Need-answer-lines-requires-2 Inv-loop μ-loop
 answer-lines-requires-2 c κs = omega arith
 
+-- a turn, where further lines are answered
+module _ (c : tie.After-answer-lines2 Inv-loop μ-loop) where
+  abbrev turn : tie.At-loop Inv-loop μ-loop
+  turn = c .before .before .before .before .before .before .before
+
 loop-less : tie.Need-loop-less Inv-loop μ-loop
 loop-less c =
-    let loop = c .before .before .before .before .before .before .before .before .before .loop in
+    let loop = turn (c .before .before) .loop in
     let done = c .before .before .answer-lines2 in
     omega (arith, answered-moves _ (loop .done .next) _ (done .result .next) (done .result .put) (done .last .1 .1 .0) (done .ensures .0) (omega arith) (omega arith))
 
 loop-again : tie.Need-loop-again Inv-loop μ-loop
 loop-again c =
-    let loop = c .before .before .before .before .before .before .before .before .before .loop in
+    let loop = turn (c .before .before) .loop in
     let done = c .before .before .answer-lines2 in (
       done .kept .1 .1 .0 ∙ loop .inv .0,
       loop .inv .1,

@@ -27,10 +27,18 @@ same-length c = search needs
 same-length-2 : tie.Need-same-length-2
 same-length-2 c = search needs
 
+-- where what is left has been held
+module _ (c : tie.After-hold) where
+  abbrev answered : tie.After-answer-block
+  answered = c .before .before .before .before
+
+  abbrev lent : tie.Start
+  lent = answered .before .before .before .before .before .before
+
 returns : tie.Need-returns
 returns c =
-    let args = c .before .before .before .before .before .before .before .before .before .before .before .before .args in
-    let start = c .before .before .before .before .before .before .answer-block in
+    let args = lent (c .before .before) .args in
+    let start = answered (c .before .before) .answer-block in
     let hold = c .before .before .hold in
     record {
       next = start .result;

@@ -2,6 +2,7 @@
 -- where the first one lies past the end.
 use Prim.Native.Nat.{ℕ, _-_, _%_}
 use mathlib.Core.Path.{_≡_, ap}
+use mathlib.Core.List.{List}
 use native.Mathlib.Omega.{arith}
 use lib.ListN.{length}
 use borrow.Author.Needs.{needs}
@@ -26,18 +27,22 @@ returns-2 c = simp (le-leb _ _ (c .before .if1 .left), lt-leb _ _ (c .if2 .taken
 first-other-requires : tie.Need-first-other-requires
 first-other-requires c κs = search needs
 
+-- as many as may be
+module _ (c : tie.Else2) where
+  abbrev bytes : List ℕ
+  bytes = c .before .before .before .args .digits .now
+
 returns-3 : tie.Need-returns-3
 unfolding checkDigit
 returns-3 c =
-    let start = c .before .before .before .before .before in
-    let bytes = start .args .digits .now in
+    let bytes = bytes (c .before .before) in
     let place : c .before .first-other .result ≡ firstNot isDigit bytes = c .before .first-other .ensures in
     simp (le-leb 1 (length bytes) (omega arith), le-leb (length bytes) 17 (omega arith), digits-refused bytes (omega arith))
     (ap (λ (p : ℕ). Refused (Character p)) place)
 
 weighed-sum-requires : tie.Need-weighed-sum-requires
 weighed-sum-requires c κs =
-    let bytes = c .before .before .before .before .before .args .digits .now in
+    let bytes = bytes (c .before .before) in
     (omega arith, all-digits bytes (omega (arith, c .before .first-other .ensures)))
 
 sub-t9 : tie.Need-sub-t9
@@ -46,7 +51,7 @@ sub-t9 c = search needs
 returns-4 : tie.Need-returns-4
 unfolding checkDigit checkOf
 returns-4 c =
-    let bytes = c .before .before .before .before .before .before .args .digits .now in
+    let bytes = bytes (c .before .before .before) in
     let all : firstNot isDigit bytes ≡ length bytes = all-digits bytes (omega (arith, c .before .before .first-other .ensures)) in
     simp (le-leb 1 (length bytes) (omega arith), le-leb (length bytes) 17 (omega arith), digits-made bytes all)
     (ap (λ (sum : ℕ). Done ((10 - sum % 10) % 10)) (c .weighed-sum .ensures .0))

@@ -1,9 +1,9 @@
 -- `digits::first_other` meets its contract: the place sought is i and the place in what is left of the bytes, which each turn shortens
 -- by a digit.
-use Prim.Native.Nat.{_+_, _-_, _≤_}
+use Prim.Native.Nat.{ℕ, _+_, _-_, _≤_}
 use mathlib.Core.Path.{_≡_, sym, ap, _∙_}
 use mathlib.Core.Bool.{true, false}
-use mathlib.Core.List.{[]}
+use mathlib.Core.List.{List, []}
 use native.Mathlib.Numerals.{add-one}
 use native.Mathlib.Omega.{arith}
 use lib.ListN.{length, getD, drop, drop-of-length-le}
@@ -29,10 +29,21 @@ shared-slice-read-is-digit c = omega arith
 is-digit-requires : tie.Need-is-digit-requires Inv-loop μ-loop
 is-digit-requires c κs = tt
 
+-- at the loop's test
+module _ (c : tie.At-loop Inv-loop μ-loop) where
+  abbrev bytes : List ℕ
+  bytes = c .before .before .args .bytes .now
+
+-- a turn, where the byte has been looked at
+module _ (c : tie.After-is-digit Inv-loop μ-loop) where
+  abbrev turn : tie.At-loop Inv-loop μ-loop
+  turn = c .before .before .before
+
 returns : tie.Need-returns Inv-loop μ-loop
 returns c =
-    let bytes = c .before .before .before .before .before .before .args .bytes .now in
-    let i = c .before .before .before .before .loop .i in
+    let at = turn (c .before) in
+    let bytes = bytes at in
+    let i = at .loop .i in
     let other : isDigit (getD bytes i 0) ≡ false = sym (c .before .is-digit .ensures) ∙ not-true _ (c .if1 .taken) in
     omega (arith, first-stops isDigit bytes i 0 (omega arith) other)
 
@@ -44,14 +55,15 @@ loop-less c = omega arith
 
 loop-again : tie.Need-loop-again Inv-loop μ-loop
 loop-again c =
-    let bytes = c .before .before .before .before .before .before .args .bytes .now in
-    let i = c .before .before .before .before .loop .i in
+    let at = turn (c .before) in
+    let bytes = bytes at in
+    let i = at .loop .i in
     let digit : isDigit (getD bytes i 0) ≡ true = sym (c .before .is-digit .ensures) ∙ not-false _ (c .if1 .left) in
     (omega arith, rw add-one (omega (arith, first-goes isDigit bytes i 0 (omega arith) digit)))
 
 returns-2 : tie.Need-returns-2 Inv-loop μ-loop
 returns-2 c =
-    let bytes = c .before .before .before .args .bytes .now in
+    let bytes = bytes (c .before) in
     let i = c .before .loop .i in
     let over : drop i bytes ≡ [] = drop-of-length-le bytes {i = i} (omega arith) in
     omega (arith, ap (firstNot isDigit) over, first-of-nil isDigit)

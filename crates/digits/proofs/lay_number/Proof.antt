@@ -22,15 +22,23 @@ enum-told c = search needs
 enum-told-2 : tie.Need-enum-told-2
 enum-told-2 c = search needs
 
+-- where the number has been tested
+module _ (c : tie.After-right-number) where
+  abbrev start : tie.Start
+  start = c .before .before .before
+
+  abbrev number : List ℕ
+  number = start .args .number .now
+
 returns : tie.Need-returns
 returns c =
-    let start = c .before .before .before .before .before in
-    let number = start .args .number .now in
+    let at = c .before .before in
+    let number = number at in
     let f = c .enum-told2 .given .0 .0 in
-    let is : c .before .before .right-number .result ≡ Refused f = c .enum-told2 .given .1 in
-    fills-passed _ f _ (c .before .before .right-number .result) is
-    (read-as-written number _ (start .pre .1 .1)
-    ∙ written-refused (length number) (map byteOf) number _ f (right-refused (length number) number f (sym is ∙ c .before .before .right-number .ensures)))
+    let is : at .right-number .result ≡ Refused f = c .enum-told2 .given .1 in
+    fills-passed _ f _ (at .right-number .result) is
+    (read-as-written number _ (start at .pre .1 .1)
+    ∙ written-refused (length number) (map byteOf) number _ f (right-refused (length number) number f (sym is ∙ at .right-number .ensures)))
 
 lay-requires : tie.Need-lay-requires
 lay-requires c κs = search needs
@@ -38,18 +46,24 @@ lay-requires c κs = search needs
 same-length : tie.Need-same-length
 same-length c = search needs
 
+-- where it is laid
+module _ (c : tie.After-lay) where
+  abbrev told : tie.After-enum-told
+  told = c .before .before
+
 returns-2 : tie.Need-returns-2
 returns-2 c =
-    let start = c .before .before .before .before .before .before .before .before .before in
-    let number = start .args .number .now in
-    let told = c .before .before .before .before in
-    let r = right-done (length number) number (told .enum-told .given .0 .0) (sym (told .enum-told .given .1) ∙ told .before .before .right-number .ensures) in
-    let room = length (start .args .lent .now) in
+    let laid = c .before .before in
+    let told = told laid in
+    let at = told .before .before in
+    let number = number at in
+    let r = right-done (length number) number (told .enum-told .given .0 .0) (sym (told .enum-told .given .1) ∙ at .right-number .ensures) in
+    let room = length (start at .args .lent .now) in
     fills-same _ (laying number room) _ _ _
     (read-as-written number room (r .all)
     ∙ written-made (length number) (map byteOf) number room (map valueOf number) (right-of-parts (length number) number (map valueOf number) r)
     ∙ ap (λ (bytes : List ℕ). laying bytes room) (bytes-of-values number (r .all)))
-    (c .before .before .lay .ensures)
+    (laid .lay .ensures)
 
 pub lay-number-spec : {M : Type 1} → statement M
 lay-number-spec =

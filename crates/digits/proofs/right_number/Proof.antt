@@ -33,13 +33,32 @@ returns c = simp (ne-eqb _ _ (c .if1 .taken))
 first-other-requires : tie.Need-first-other-requires
 first-other-requires c κs = search needs
 
+-- what the call was lent
+module _ (c : tie.After-first-other) where
+  abbrev lent : tie.Start
+  lent = c .before .before .before
+
 returns-2 : tie.Need-returns-2
 unfolding rightNumber
 returns-2 c =
-    let start = c .before .before .before .before in
-    let number = start .args .number .now in
-    let place : c .before .first-other .result ≡ firstNot isDigit number = c .before .first-other .ensures in
-    simp (eq-eqb _ _ (c .before .before .if1 .left), digits-refused number (omega arith)) (ap (λ (p : ℕ). Refused (Character p)) place)
+    let at = c .before in
+    let number = lent at .args .number .now in
+    let place : at .first-other .result ≡ firstNot isDigit number = at .first-other .ensures in
+    simp (eq-eqb _ _ (at .before .if1 .left), digits-refused number (omega arith)) (ap (λ (p : ℕ). Refused (Character p)) place)
+
+-- the number is of so many digits
+module _ (c : tie.Else2) where
+  abbrev number : List ℕ
+  number = lent (c .before) .args .number .now
+
+  abbrev n : ℕ
+  n = lent (c .before) .args .count
+
+  counted : length number ≡ n
+  counted = c .before .before .if1 .left
+
+  all : firstNot isDigit number ≡ length number
+  all = all-digits number (omega (arith, c .before .first-other .ensures))
 
 sub-last : tie.Need-sub-last
 sub-last c = search needs
@@ -49,54 +68,51 @@ slice-aggregate-weighed-sum c = simp length-take (omega arith)
 
 weighed-sum-requires : tie.Need-weighed-sum-requires
 weighed-sum-requires c κs =
-    let number = c .before .before .before .before .before .args .number .now in (
-      simp length-take (omega arith),
-      pass-take isDigit (c .before .before .before .before .before .args .count - 1) number 0 (all-digits number (omega (arith, c .before .before .first-other .ensures))),
-    )
+    let at = c .before in
+    (simp length-take (omega arith), pass-take isDigit (n at - 1) (number at) 0 (all at))
 
 shared-slice-read-value-of : tie.Need-shared-slice-read-value-of
 shared-slice-read-value-of c = search needs
 
+-- the digits before the last have been weighed
+module _ (c : tie.After-shared-slice-known2) where
+  abbrev passed : tie.Else2
+  passed = c .before .before .before
+
 value-of-requires : tie.Need-value-of-requires
-value-of-requires c κs =
-    let start = c .before .before .before .before .before .before .before in
-    let number = start .args .number .now in
-    let all = all-digits number (omega (arith, c .before .before .before .before .first-other .ensures)) in
-    digit-at number all (start .args .count - 1) (omega arith) .0
+value-of-requires c κs = let at = passed c in digit-at (number at) (all at) (n at - 1) (omega arith) .0
+
+-- at the last test: the sum is the rule's
+module _ (c : tie.After-value-of) where
+  abbrev at : tie.Else2
+  at = passed (c .before)
+
+  abbrev weighing : tie.After-weighed-sum
+  weighing = c .before .before
+
+  made-digits : digitsOf (number at) ≡ made (map valueOf (number at))
+  made-digits = digits-made (number at) (all at)
+
+  tested : isRight (map valueOf (number at)) ≡ eqb ((weighing .weighed-sum .result + c .value-of .result) % 10) 0
+  tested =
+      right-sum (number at) (n at) (counted at)
+      ∙ sym (ap₂ (λ (sum last : ℕ). eqb ((sum + last) % 10) 0) (weighing .weighed-sum .ensures .0) (c .value-of .ensures))
 
 add-sum : tie.Need-add-sum
-add-sum c = omega (arith, c .before .before .weighed-sum .ensures .1, c .value-of .ensures, c .before .shared-slice-known2 .given (c .before .before .before .before .before .before .before .before .args .count - 1))
-
--- at the last test: the number is of so many digits, and the sum is the rule's
-module _ (c : tie.After-value-of) where
-  abbrev number : List ℕ
-  number = c .before .before .before .before .before .before .before .before .args .number .now
-
-  abbrev n : ℕ
-  n = c .before .before .before .before .before .before .before .before .args .count
-
-  counted : length number ≡ n
-  counted = c .before .before .before .before .before .before .if1 .left
-
-  made-digits : digitsOf number ≡ made (map valueOf number)
-  made-digits = digits-made number (all-digits number (omega (arith, counted, c .before .before .before .before .before .first-other .ensures)))
-
-  tested : isRight (map valueOf number) ≡ eqb ((c .before .before .weighed-sum .result + c .value-of .result) % 10) 0
-  tested =
-      right-sum number n counted
-      ∙ sym (ap₂ (λ (sum last : ℕ). eqb ((sum + last) % 10) 0) (c .before .before .weighed-sum .ensures .0) (c .value-of .ensures))
+add-sum c = omega (arith, weighing c .weighed-sum .ensures .1, c .value-of .ensures, c .before .shared-slice-known2 .given (n (at c) - 1))
 
 returns-3 : tie.Need-returns-3
 unfolding rightNumber
 returns-3 c =
-    let at = c .before in
-    simp (eq-eqb _ _ (counted at), made-digits at, tested at, eq-eqb _ 0 (c .if3 .taken)) (ap Done (sym (counted at) ∙ sym (length-map (number at) valueOf)))
+    let last = c .before in
+    let same = counted (at last) in
+    simp (eq-eqb _ _ same, made-digits last, tested last, eq-eqb _ 0 (c .if3 .taken)) (ap Done (sym same ∙ sym (length-map (number (at last)) valueOf)))
 
 returns-4 : tie.Need-returns-4
 unfolding rightNumber
 returns-4 c =
-    let at = c .before in
-    simp (eq-eqb _ _ (counted at), made-digits at, tested at, ne-eqb _ 0 (c .if3 .left))
+    let last = c .before in
+    simp (eq-eqb _ _ (counted (at last)), made-digits last, tested last, ne-eqb _ 0 (c .if3 .left))
 
 pub right-number-spec : {M : Type 1} → statement M
 right-number-spec =

@@ -45,36 +45,44 @@ sub-i c = omega arith
 shared-slice-read-value-of : tie.Need-shared-slice-read-value-of Inv-loop μ-loop
 shared-slice-read-value-of c = omega arith
 
+-- what the call was lent
+module _ (c : tie.At-loop Inv-loop μ-loop) where
+  abbrev lent : tie.Start Inv-loop μ-loop
+  lent = c .before .before
+
+  abbrev digits : List ℕ
+  digits = lent .args .digits .now
+
 value-of-requires : tie.Need-value-of-requires Inv-loop μ-loop
 value-of-requires c κs =
-    let start = c .before .before .before .before in
-    digit-at (start .args .digits .now) (start .pre .1) (c .before .before .loop .i - 1) (omega arith) .0
+    let turn = c .before .before in
+    digit-at (digits turn) (lent turn .pre .1) (turn .loop .i - 1) (omega arith) .0
 
 -- what a turn adds
-adds-most : (c : tie.After-value-of Inv-loop μ-loop) → c .before .before .before .loop .weight * c .value-of .result ≤ 27
-adds-most c =
-    let start = c .before .before .before .before .before in
-    let loop = c .before .before .before .loop in
-    let range = digit-at (start .args .digits .now) (start .pre .1) (loop .i - 1) (omega arith) in
-    rw (loop .inv .1) (product-most _ (c .value-of .result) (omega (arith, c .value-of .ensures)))
+module _ (c : tie.After-value-of Inv-loop μ-loop) where
+  abbrev turn : tie.At-loop Inv-loop μ-loop
+  turn = c .before .before .before
+
+  adds-most : turn .loop .weight * c .value-of .result ≤ 27
+  adds-most =
+      let range = digit-at (digits turn) (lent turn .pre .1) (turn .loop .i - 1) (omega arith) in
+      rw (turn .loop .inv .1) (product-most _ (c .value-of .result) (omega (arith, c .value-of .ensures)))
 
 mul-sum : tie.Need-mul-sum Inv-loop μ-loop
 mul-sum c = omega (arith, adds-most c)
 
 add-sum : tie.Need-add-sum Inv-loop μ-loop
-add-sum c = omega (arith, adds-most c, c .before .before .before .before .before .pre .0)
+add-sum c = omega (arith, adds-most c, lent (turn c) .pre .0)
 
 sub-weight : tie.Need-sub-weight Inv-loop μ-loop
-sub-weight c =
-    let loop = c .before .before .before .loop in
-    omega (arith, weight-most (length (c .before .before .before .before .before .args .digits .now) - loop .i))
+sub-weight c = omega (arith, weight-most (length (digits (turn c)) - turn c .loop .i))
 
 loop-less : tie.Need-loop-less Inv-loop μ-loop
 loop-less c = omega arith
 
 loop-again : tie.Need-loop-again Inv-loop μ-loop
 loop-again c =
-    let digits = c .before .before .before .before .before .args .digits .now in
+    let digits = digits (turn c) in
     let loop = c .before .before .before .loop in
     let i = loop .i - 1 in
     let here : suc i ≡ loop .i = omega arith in

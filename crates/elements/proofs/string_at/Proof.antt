@@ -33,6 +33,20 @@ part-row-at-end c = search needs
 row-at-requires : tie.Need-row-at-requires
 row-at-requires c κs = search needs
 
+-- the row at the place was looked for
+module _ (c : tie.After-row-at) where
+  abbrev start : tie.Start
+  start = c .before .before .before
+
+  abbrev message : List ℕ
+  message = start .args .message .now
+
+  abbrev at : ℕ
+  at = start .args .at
+
+  row-here : rowAt (drop at message) ≡ c .row-at .result
+  row-here = ap rowAt (sym (rest-of message at)) ∙ sym (c .row-at .ensures)
+
 enum-known-identifier : tie.Need-enum-known-identifier
 enum-known-identifier c = search needs
 
@@ -41,39 +55,41 @@ enum-told c = search needs
 
 returns : tie.Need-returns
 returns c =
-    let start = c .before .before .before .before .before in
-    let message = start .args .message .now in
-    let at = start .args .at in
-    rw (string-unlisted message at (ap rowAt (sym (rest-of message at)) ∙ sym (c .before .before .row-at .ensures) ∙ c .enum-told .given .1))
+    let r = c .before .before in
+    rw (string-unlisted (message r) (at r) (row-here r ∙ c .enum-told .given .1))
 
 digits-of-requires : tie.Need-digits-of-requires
 digits-of-requires c κs = search needs
 
 -- the identifier and its kind are known
 module _ (c : tie.After-digits-of) where
-  abbrev message : List ℕ
-  message = c .before .before .before .before .before .before .before .args .message .now
+  abbrev named : tie.After-identifier
+  named = c .before .before
 
-  abbrev at : ℕ
-  at = c .before .before .before .before .before .before .before .args .at
+  abbrev row : tie.After-row-at
+  row = named .before .before
 
   abbrev x : ℕ
-  x = c .before .before .identifier .given .0 .0
+  x = named .identifier .given .0 .0
 
   abbrev kind : Kind
-  kind = c .before .before .identifier .given .0 .1 .0
+  kind = named .identifier .given .0 .1 .0
 
   abbrev begin : ℕ
-  begin = at + c .digits-of .result
+  begin = at row + c .digits-of .result
 
-  found : (identifierIn (drop at message) ≡ some x) × (kindOf x ≡ some kind)
-  found = row-listed (drop at message) x kind (ap rowAt (sym (rest-of message at)) ∙ sym (c .before .before .before .before .row-at .ensures) ∙ c .before .before .identifier .given .1)
+  -- the bytes after the identifier
+  abbrev rest : List ℕ
+  rest = drop begin (message row)
 
-  begin-is : begin ≡ at + length (spelled x)
-  begin-is = ap (λ (n : ℕ). at + n) (c .digits-of .ensures)
+  found : (identifierIn (drop (at row) (message row)) ≡ some x) × (kindOf x ≡ some kind)
+  found = row-listed (drop (at row) (message row)) x kind (row-here row ∙ named .identifier .given .1)
 
-  inside : begin ≤ length message
-  inside = omega (arith, begin-is, begin-within message at x kind (found .0) (found .1) (c .before .before .before .before .before .before .before .pre))
+  begin-is : begin ≡ at row + length (spelled x)
+  begin-is = ap (λ (n : ℕ). at row + n) (c .digits-of .ensures)
+
+  inside : begin ≤ length (message row)
+  inside = omega (arith, begin-is, begin-within (message row) (at row) x kind (found .0) (found .1) (start row .pre))
 
 add-begin : tie.Need-add-begin
 add-begin c = omega (arith, inside c)
@@ -95,16 +111,19 @@ module _ (c : tie.After-data-length) where
   abbrev before : tie.After-digits-of
   before = c .before .before
 
-  count-is : c .data-length .result ≡ length (dataOf (kind before) (drop (begin before) (message before)))
-  count-is = c .data-length .ensures ∙ ap (λ (bytes : List ℕ). length (dataOf (kind before) bytes)) (rest-of (message before) (begin before))
+  abbrev bytes : List ℕ
+  bytes = message (row before)
 
-  end-inside : begin before + c .data-length .result ≤ length (message before)
-  end-inside = omega (arith, inside before, count-is, data-within (kind before) (drop (begin before) (message before)), length-drop (begin before) (message before))
+  count-is : c .data-length .result ≡ length (dataOf (kind before) (rest before))
+  count-is = c .data-length .ensures ∙ ap (λ (left : List ℕ). length (dataOf (kind before) left)) (rest-of bytes (begin before))
 
-  part-is : take (begin before + c .data-length .result - begin before) (drop (begin before) (message before)) ≡ dataOf (kind before) (drop (begin before) (message before))
+  end-inside : begin before + c .data-length .result ≤ length bytes
+  end-inside = omega (arith, inside before, count-is, data-within (kind before) (rest before), length-drop (begin before) bytes)
+
+  part-is : take (begin before + c .data-length .result - begin before) (rest before) ≡ dataOf (kind before) (rest before)
   part-is =
-      ap (λ (n : ℕ). take n (drop (begin before) (message before))) (add-sub-cancel-left (begin before) (c .data-length .result) ∙ count-is)
-      ∙ data-part (kind before) (drop (begin before) (message before))
+      ap (λ (n : ℕ). take n (rest before)) (add-sub-cancel-left (begin before) (c .data-length .result) ∙ count-is)
+      ∙ data-part (kind before) (rest before)
 
 add-end : tie.Need-add-end
 add-end c = omega (arith, end-inside c)
@@ -119,16 +138,26 @@ part-right-data-end : tie.Need-part-right-data-end
 part-right-data-end c = end-inside c
 
 right-data-requires : tie.Need-right-data-requires
-right-data-requires c κs = sized-if-listed (x (c .before .before .before)) (kind (c .before .before .before)) (found (c .before .before .before) .1)
+right-data-requires c κs =
+    let b = before (c .before) in
+    sized-if-listed (x b) (kind b) (found b .1)
 
 -- whether the data is right is known
-judged : (c : tie.After-right-data) → c .right-data .result ≡ rightData (kind (c .before .before .before .before)) (dataOf (kind (c .before .before .before .before)) (drop (begin (c .before .before .before .before)) (message (c .before .before .before .before))))
-judged c = c .right-data .ensures ∙ ap (rightData (kind (c .before .before .before .before))) (part-is (c .before .before))
+module _ (c : tie.After-right-data) where
+  abbrev ended : tie.After-data-length
+  ended = c .before .before
+
+  abbrev begun : tie.After-digits-of
+  begun = before ended
+
+  judged : c .right-data .result ≡ rightData (kind begun) (dataOf (kind begun) (rest begun))
+  judged = c .right-data .ensures ∙ ap (rightData (kind begun)) (part-is ended)
 
 returns-2 : tie.Need-returns-2
 returns-2 c =
-    let b = c .before .before .before .before .before in
-    rw (string-wrong (message b) (at b) (x b) (kind b) (found b .0) (found b .1) (begin b) (begin-is b) (sym (judged (c .before)) ∙ not-true _ (c .if1 .taken)))
+    let b = begun (c .before) in
+    let wrong = sym (judged (c .before)) ∙ not-true _ (c .if1 .taken) in
+    rw (string-wrong (message (row b)) (at (row b)) (x b) (kind b) (found b .0) (found b .1) (begin b) (begin-is b) wrong)
 
 sub-t14 : tie.Need-sub-t14
 sub-t14 c = search needs
@@ -138,10 +167,12 @@ next-after-requires c κs = omega (arith, end-inside (c .before .before .before)
 
 returns-3 : tie.Need-returns-3
 returns-3 c =
-    let d = c .before .before .before .before in
-    let b = d .before .before in
-    ap String (element-is (message b) (x b) (kind b) (begin b) (d .data-length .result) (c .next-after .result) (count-is d) (c .next-after .ensures))
-    ∙ sym (ap foundOf (string-right (message b) (at b) (x b) (kind b) (found b .0) (found b .1) (begin b) (begin-is b) (sym (judged (c .before .before)) ∙ not-false _ (c .before .if1 .left))))
+    let j = c .before .before in
+    let d = ended j in
+    let b = begun j in
+    let right = sym (judged j) ∙ not-false _ (c .before .if1 .left) in
+    ap String (element-is (bytes d) (x b) (kind b) (begin b) (d .data-length .result) (c .next-after .result) (count-is d) (c .next-after .ensures))
+    ∙ sym (ap foundOf (string-right (bytes d) (at (row b)) (x b) (kind b) (found b .0) (found b .1) (begin b) (begin-is b) right))
 
 pub string-at-spec : {M : Type 1} → statement M
 string-at-spec =

@@ -1,6 +1,7 @@
 -- `elements::test` meets its contract: the tests that led to each `return` are those of the rule's lines.
 use Prim.Native.Nat.{ℕ}
 use mathlib.Core.Path.{_≡_, ap}
+use mathlib.Core.List.{List}
 use native.Mathlib.Omega.{arith}
 use borrow.Author.Needs.{needs}
 use borrow.Author.Tests.{le-leb, lt-leb, eq-eqb, ne-eqb}
@@ -22,15 +23,20 @@ returns-2 : tie.Need-returns-2
 unfolding tested
 returns-2 c = simp (le-leb _ _ (c .before .if1 .left), lt-leb _ _ (c .if2 .taken))
 
+-- the count has passed both tests
+module _ (c : tie.Else2) where
+  abbrev message : List ℕ
+  message = c .before .before .before .args .message .now
+
 first-bad-requires : tie.Need-first-bad-requires
 first-bad-requires c κs = search needs
 
 returns-3 : tie.Need-returns-3
 unfolding tested
 returns-3 c =
-    let message = c .before .before .before .before .before .args .message .now in
-    let place : c .before .first-bad .result ≡ firstNot isMessageByte message = c .before .first-bad .ensures in
-    simp (le-leb 1 (length message) (omega arith), le-leb (length message) 48 (omega arith), ne-eqb (firstNot isMessageByte message) (length message) (omega arith))
+    let bytes = message (c .before .before) in
+    let place : c .before .first-bad .result ≡ firstNot isMessageByte bytes = c .before .first-bad .ensures in
+    simp (le-leb 1 (length bytes) (omega arith), le-leb (length bytes) 48 (omega arith), ne-eqb (firstNot isMessageByte bytes) (length bytes) (omega arith))
     (ap (λ (p : ℕ). Refused (Character p)) place)
 
 count-requires : tie.Need-count-requires
@@ -39,9 +45,11 @@ count-requires c κs = omega arith
 returns-4 : tie.Need-returns-4
 unfolding tested
 returns-4 c =
-    let message = c .before .before .before .before .before .before .args .message .now in
-    let all : firstNot isMessageByte message ≡ length message = omega (arith, c .before .before .first-bad .ensures, first-within isMessageByte message) in
-    simp (le-leb 1 (length message) (omega arith), le-leb (length message) 48 (omega arith), eq-eqb (firstNot isMessageByte message) (length message) all) (c .count .ensures)
+    let looked = c .before .before in
+    let bytes = message (looked .before) in
+    let all : firstNot isMessageByte bytes ≡ length bytes = omega (arith, looked .first-bad .ensures, first-within isMessageByte bytes) in
+    simp (le-leb 1 (length bytes) (omega arith), le-leb (length bytes) 48 (omega arith), eq-eqb (firstNot isMessageByte bytes) (length bytes) all)
+    (c .count .ensures)
 
 pub test-spec : {M : Type 1} → statement M
 test-spec =

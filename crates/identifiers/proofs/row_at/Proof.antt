@@ -33,11 +33,14 @@ digits-after-requires c κs = search needs
 
 -- the count of digits is known
 module _ (c : tie.After-digits-after) where
-  abbrev bytes : List ℕ
-  bytes = c .before .before .before .before .before .args .bytes .now
+  abbrev led : tie.After-leading-digits
+  led = c .before .before .before
 
-  run : c .before .before .before .leading-digits .result ≡ firstNot isDigit (take 4 bytes)
-  run = c .before .before .before .leading-digits .ensures
+  abbrev bytes : List ℕ
+  bytes = led .before .before .args .bytes .now
+
+  run : led .leading-digits .result ≡ firstNot isDigit (take 4 bytes)
+  run = led .leading-digits .ensures
 
   pair-is : c .before .pair-at .result ≡ pairAt bytes 0
   pair-is = c .before .pair-at .ensures .0
@@ -56,22 +59,27 @@ returns-3 c =
     let at = c .before .before .before in
     c .row-of .ensures ∙ ap rowOf (pair-is at) ∙ sym (decided-by-two (bytes at) (omega (arith, run at)) (sym (count-is at) ∙ c .before .if3 .taken))
 
+-- two digits don't decide
+module _ (c : tie.Else3) where
+  abbrev counted : tie.After-digits-after
+  counted = c .before .before
+
 mul-row-of : tie.Need-mul-row-of
 mul-row-of c = search needs
 
 shared-slice-read-value-of : tie.Need-shared-slice-read-value-of
 shared-slice-read-value-of c =
-    let at = c .before .before .before .before in
+    let at = counted (c .before .before) in
     omega (arith, run at, run-within (bytes at))
 
 value-of-requires : tie.Need-value-of-requires
 value-of-requires c κs =
-    let at = c .before .before .before .before in
+    let at = counted (c .before .before) in
     digit-range _ (leading-digit (bytes at) 2 (omega (arith, run at))) .0
 
 add-row-of : tie.Need-add-row-of
 add-row-of c =
-    let at = c .before .before .before .before .before in
+    let at = counted (c .before .before .before) in
     let digit = digit-range (getD (bytes at) 2 0) (leading-digit (bytes at) 2 (omega (arith, run at))) in
     omega (arith, c .value-of .ensures, at .before .pair-at .ensures .1)
 
@@ -80,17 +88,18 @@ row-of-requires-2 c κs = search needs
 
 returns-4 : tie.Need-returns-4
 returns-4 c =
-    let at = c .before .before .before .before .before .before in
+    let three = c .before .before .before in
+    let at = counted (three .before) in
     c .row-of2 .ensures
     ∙ ap₂ (λ (p d : ℕ). rowOf (10 * p + d)) (pair-is at) (c .before .value-of .ensures)
-    ∙ sym (decided-by-three (bytes at) (omega (arith, run at)) (sym (count-is at) ∙ c .before .before .before .if4 .taken))
+    ∙ sym (decided-by-three (bytes at) (omega (arith, run at)) (sym (count-is at) ∙ three .if4 .taken))
 
 mul-row-of-2 : tie.Need-mul-row-of-2
 mul-row-of-2 c = search needs
 
 pair-at-requires-2 : tie.Need-pair-at-requires-2
 pair-at-requires-2 c κs =
-    let at = c .before .before .before in
+    let at = counted (c .before) in
     let four : 4 ≤ firstNot isDigit (take 4 (bytes at)) = omega (arith, run at, count-is at, after-bounds (pairAt (bytes at) 0) .0) in
     (omega (arith, run-within (bytes at)), (leading-digit (bytes at) 2 (omega arith), leading-digit (bytes at) 3 (omega arith)))
 
@@ -102,7 +111,7 @@ row-of-requires-3 c κs = search needs
 
 returns-5 : tie.Need-returns-5
 returns-5 c =
-    let at = c .before .before .before .before .before in
+    let at = counted (c .before .before .before) in
     let count : digitsAfter (pairAt (bytes at) 0) ≡ 4 = omega (arith, count-is at, after-bounds (pairAt (bytes at) 0)) in
     c .row-of3 .ensures
     ∙ ap₂ (λ (p q : ℕ). rowOf (100 * p + q)) (pair-is at) (c .before .pair-at2 .ensures .0)

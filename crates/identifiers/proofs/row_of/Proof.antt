@@ -1,5 +1,6 @@
 -- `identifiers::row_of` meets its contract: each arm is reached by the identifiers of one row, which are computed to have it; what is left
 -- lies between the listed ones.
+use Prim.Native.Nat.{ℕ}
 use mathlib.Core.Path.{_≡_, refl, sym, _∙_}
 use mathlib.Core.Bool.{true, false}
 use mathlib.Core.List.{[], _∷_}
@@ -69,10 +70,30 @@ returns-4 c =
     let x = c .before .before .args .identifier in
     row-at-place x 7 (upTo 20 Text) (row-of-keys (10 ∷ 21 ∷ []) 7 refl x (c .before .match .keys4)) refl (c .up-to2 .result) (c .up-to2 .ensures)
 
+-- an identifier of no arm of single keys
+module _ (c : tie.At-match-rest) where
+  abbrev identifier : ℕ
+  identifier = c .before .args .identifier
+
+-- one from 10 to 17
+module _ (c : tie.Else3) where
+  abbrev from-10 : tie.At-match-rest
+  from-10 = c .before .before .before
+
+-- one from 242 on
+module _ (c : tie.Else7) where
+  abbrev from-242 : tie.At-match-rest
+  from-242 = c .before .before .before
+
+-- one that was tested for a measure
+module _ (c : tie.After-is-measure) where
+  abbrev no-key : tie.At-match-rest
+  no-key = c .before .before
+
 returns-5 : tie.Need-returns-5
 unfolding placeOf table measures placeIn firstNot
 returns-5 c =
-    let x = c .before .before .before .before .args .identifier in
+    let x = identifier (c .before .before .before) in
     let other : x ≡ 0 → ⊥ = c .before .before .before .match .rest .0 .0 .0 .0 .1 in
     row-at-place x 1 (exactly 14 DigitsWithCheck)
     (in-run (inRow 1) 1 2 true tt x (omega arith) (omega arith))
@@ -81,7 +102,7 @@ returns-5 c =
 returns-6 : tie.Need-returns-6
 unfolding placeOf table measures placeIn firstNot
 returns-6 c =
-    let x = c .before .before .before .before .before .before .before .args .identifier in
+    let x = identifier (from-242 (c .before .before .before)) in
     row-at-place x 2 (exactly 13 DigitsWithCheck)
     (in-run (inRow 2) 410 6 true tt x (omega arith) (omega arith))
     refl (c .exactly4 .result) (c .exactly4 .ensures)
@@ -89,8 +110,8 @@ returns-6 c =
 returns-7 : tie.Need-returns-7
 unfolding placeOf table measures placeIn firstNot
 returns-7 c =
-    let x = c .before .before .before .before .before .before .args .identifier in
-    let other : x ≡ 10 → ⊥ = λ e. c .before .before .before .before .before .match .rest .0 .1 (inl e) in
+    let x = identifier (from-10 (c .before .before)) in
+    let other : x ≡ 10 → ⊥ = λ e. from-10 (c .before .before) .match .rest .0 .1 (inl e) in
     row-at-place x 3 (exactly 6 Date)
     (⊎-elim (λ w. in-run (inRow 3) 11 3 true tt x (omega arith) (omega arith)) (λ w. in-run (inRow 3) 15 3 true tt x (omega arith) (omega arith))
     (c .before .if4 .came))
@@ -99,7 +120,7 @@ returns-7 c =
 returns-8 : tie.Need-returns-8
 unfolding placeOf table measures placeIn firstNot
 returns-8 c =
-    let x = c .before .before .before .before .before .args .identifier in
+    let x = identifier (no-key (c .before .before)) in
     let measure : among measures x ≡ true = sym (c .before .before .is-measure .ensures) ∙ c .before .if10 .taken in
     row-at-place x 5 (exactly 6 Digits)
     (all-among (inRow 5) measures refl x measure)
@@ -108,8 +129,8 @@ returns-8 c =
 returns-9 : tie.Need-returns-9
 unfolding listed identifiersOf table measures placeIn firstNot
 returns-9 c =
-    let x = c .before .before .before .before .args .identifier in
-    let rest = c .before .before .before .match .rest in
+    let x = identifier (no-key (c .before)) in
+    let rest = no-key (c .before) .match .rest in
     let measure : among measures x ≡ false = sym (c .before .is-measure .ensures) ∙ c .if10 .left in
     let other = not-others x (rest .0 .0 .0 .0 .1) (rest .0 .0 .0 .1) (rest .0 .0 .1) (rest .0 .1) (rest .1) measure in
     ⊎-elim (λ w. row-of-gap 3 10 x refl other (omega arith) (omega arith))

@@ -18,13 +18,21 @@ returns c = rw (lt-ltb _ 100 (c .before .if1 .taken), c .digit-byte2 .ensures, c
 digit-byte-requires-3 : tie.Need-digit-byte-requires-3
 digit-byte-requires-3 c κs = search needs
 
+-- an identifier of three digits or more, with its last two
+module _ (c : tie.After-digit-byte3) where
+  abbrev last : tie.After-digit-byte
+  last = c .before .before
+
 digit-byte-requires-4 : tie.Need-digit-byte-requires-4
 digit-byte-requires-4 c κs = search needs
 
 returns-2 : tie.Need-returns-2
 unfolding spelled
 returns-2 c =
-    rw (le-ltb _ 100 (c .before .before .before .if1 .left), lt-ltb _ 1000 (c .before .if2 .taken), c .digit-byte4 .ensures, c .before .before .digit-byte3 .ensures, c .before .before .before .before .digit-byte .ensures)
+    let two = c .before .before in
+    let from-100 = le-ltb _ 100 (two .before .if1 .left) in
+    let below-1000 = lt-ltb _ 1000 (c .before .if2 .taken) in
+    rw (from-100, below-1000, c .digit-byte4 .ensures, two .digit-byte3 .ensures, last two .digit-byte .ensures)
 
 digit-byte-requires-5 : tie.Need-digit-byte-requires-5
 digit-byte-requires-5 c κs = search needs
@@ -35,7 +43,10 @@ digit-byte-requires-6 c κs = search needs
 returns-3 : tie.Need-returns-3
 unfolding spelled
 returns-3 c =
-    rw (le-ltb _ 100 (c .before .before .before .before .if1 .left), le-ltb _ 1000 (c .before .before .if2 .left), c .before .digit-byte5 .ensures, c .digit-byte6 .ensures, c .before .before .before .digit-byte3 .ensures, c .before .before .before .before .before .digit-byte .ensures)
+    let two = c .before .before .before in
+    let from-100 = le-ltb _ 100 (two .before .if1 .left) in
+    let from-1000 = le-ltb _ 1000 (c .before .before .if2 .left) in
+    rw (from-100, from-1000, c .before .digit-byte5 .ensures, c .digit-byte6 .ensures, two .digit-byte3 .ensures, last two .digit-byte .ensures)
 
 pub spelling-spec : {M : Type 1} → statement M
 spelling-spec =

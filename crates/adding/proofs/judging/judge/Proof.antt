@@ -35,23 +35,31 @@ enum-told-2 c = search needs
 
 returns : tie.Need-returns
 returns c =
-    let args = c .before .before .before .before .before .args in
+    let tested = c .before .before in
+    let args = tested .before .before .before .args in
     let is = c .enum-told2 .given .1 in
-    is ∙ sym (ap answered (judged-old (args .old .now) (args .identifier) (args .content .now) _ (refused-of-answer (sofar (args .old .now)) _ (sym is ∙ c .before .before .test-old .ensures))))
+    let stopped = refused-of-answer (sofar (args .old .now)) _ (sym is ∙ tested .test-old .ensures) in
+    is ∙ sym (ap answered (judged-old (args .old .now) (args .identifier) (args .content .now) _ stopped))
 
 -- the strings so far are known
 module _ (c : tie.After-enum-told) where
+  abbrev tested : tie.After-test-old
+  tested = c .before .before
+
+  abbrev lent : tie.Start
+  lent = tested .before .before .before
+
   abbrev old : List ℕ
-  old = c .before .before .before .before .before .args .old .now
+  old = lent .args .old .now
 
   abbrev x : ℕ
-  x = c .before .before .before .before .before .args .identifier
+  x = lent .args .identifier
 
   abbrev content : List ℕ
-  content = c .before .before .before .before .before .args .content .now
+  content = lent .args .content .now
 
   tested-old : (strings : List Element) × (sofar old ≡ made strings) × (length strings ≡ c .enum-told .given .0 .0)
-  tested-old = made-of-answer (sofar old) (c .enum-told .given .0 .0) (sym (c .enum-told .given .1) ∙ c .before .before .test-old .ensures)
+  tested-old = made-of-answer (sofar old) (c .enum-told .given .0 .0) (sym (c .enum-told .given .1) ∙ tested .test-old .ensures)
 
   strings : List Element
   strings = tested-old .0
@@ -139,7 +147,7 @@ module _ (c : tie.After-unused) where
   digits = spelling-of (x start) (listed-if-kind (x start) (kind known) (listed known)) .four
 
   few : length (old start) ≤ 48
-  few = start .before .before .before .before .before .pre
+  few = lent start .pre
 
 add-end : tie.Need-add-end
 add-end c = omega (arith, short (c .before), few (c .before))

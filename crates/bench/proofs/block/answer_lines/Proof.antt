@@ -56,9 +56,17 @@ part-answer-end-2 c = omega arith
 answer-requires : tie.Need-answer-requires Inv-loop μ-loop
 answer-requires c κs = simp (length-take, length-drop) (omega (arith, leb-true))
 
+-- a turn, where the line is answered
+module _ (c : tie.After-answer Inv-loop μ-loop) where
+  abbrev turn : tie.At-loop Inv-loop μ-loop
+  turn = c .before .before .before .before .before
+
+  abbrev lent : tie.Start Inv-loop μ-loop
+  lent = turn .before .before .before .before
+
 add-put : tie.Need-add-put Inv-loop μ-loop
 add-put c =
-    let loop = c .before .before .before .before .before .before .before .loop in
+    let loop = turn (c .before .before) .loop in
     let answer = c .before .before .answer in
     omega (arith, room-left _ (loop .out) (loop .put) (answer .result) (answer .last .1 .0) (omega arith) (answer .ensures) (answer .kept .1 .0))
 
@@ -73,9 +81,10 @@ loop-less c = omega arith
 
 loop-again : tie.Need-loop-again Inv-loop μ-loop
 loop-again c =
-    let loop = c .before .before .before .before .before .before .before .before .loop in
-    let args = c .before .before .before .before .before .before .before .before .before .before .before .before .args in
-    let answer = c .before .before .before .answer in
+    let at = c .before .before .before in
+    let loop = turn at .loop in
+    let args = lent at .args in
+    let answer = at .answer in
     let fits = room-left _ (loop .out) (loop .put) (answer .result) (answer .last .1 .0) (omega arith) (answer .ensures) (answer .kept .1 .0) in
     let same = c .before .before .out .given .1 in (
       omega arith,

@@ -24,11 +24,18 @@ sub-put-symbol c = search needs
 part-put-symbol-start : tie.Need-part-put-symbol-start
 part-put-symbol-start c = search needs
 
+-- where the line's message has been put
+module _ (c : tie.After-message2) where
+  abbrev found : tie.After-message-in
+  found = c .before .before .before
+
+  abbrev lent : tie.Start
+  lent = found .before .before .before .before .before .before
+
 part-put-symbol-end : tie.Need-part-put-symbol-end
 part-put-symbol-end c =
-    let message = c .before .before .before .before .before .before .before .before .before .args .message .now in
-    let put = c .before .before .before .message-in in
-    omega (arith, puts-within _ message (put .result) (put .last .1 .0) (put .ensures) (put .kept .1 .0))
+    let put = found c .message-in in
+    omega (arith, puts-within _ (lent c .args .message .now) (put .result) (put .last .1 .0) (put .ensures) (put .kept .1 .0))
 
 put-symbol-requires : tie.Need-put-symbol-requires
 put-symbol-requires c κs = search needs
@@ -42,17 +49,25 @@ same-length-2 c = search needs
 same-length-3 : tie.Need-same-length-3
 same-length-3 c = search needs
 
+-- where its symbol has been put
+module _ (c : tie.After-slice-known6) where
+  abbrev answered : tie.After-put-symbol
+  answered = c .before .before .before .before
+
+  abbrev handed : tie.After-message2
+  handed = answered .before .before .before .before
+
 returns : tie.Need-returns
 unfolding answers
 returns c =
-    let args = c .before .before .before .before .before .before .before .before .before .before .before .before .before .before .before .before .before .args in
-    let put = c .before .before .before .before .before .before .before .before .before .before .before .message-in in
+    let args = lent (handed c) .args in
+    let put = found (handed c) .message-in in
     let message = messageOf (args .line .now) in
     let size : length (args .message .now) ≡ 49 = omega arith in
     let cut : take (put .result - 0) (put .last .1 .0) ≡ take 49 message =
     rw sub-zero (puts-front (take (length (args .message .now)) message) (args .message .now) (put .result) (put .last .1 .0) (put .ensures) ∙ ap (λ (n : ℕ). take n message) size) in
     let same = ap (λ (m : List ℕ). writes m 313) cut ∙ written-cut message 313 ∙ in-any-room message 313 619 (omega arith) (omega arith) in
-    rw (← same) (c .before .before .before .before .put-symbol .ensures)
+    rw (← same) (answered c .put-symbol .ensures)
 
 pub answer-in-spec : {M : Type 1} → statement M
 answer-in-spec =

@@ -23,10 +23,16 @@ add-result c = omega arith
 same-length : tie.Need-same-length
 same-length c = search needs
 
+-- where the refusal's two numbers stand
+module _ (c : tie.After-put-pair) where
+  abbrev placed : tie.After-place
+  placed = c .before .before
+
 returns : tie.Need-returns
 returns c =
-    let pair = c .before .before .put-pair in
-    rw (← c .before .before .before .before .before .number .ensures, ← c .before .before .before .before .place .ensures) (puts-more _ _ _ _ 10 (omega arith) (pair .ensures .0))
+    let pair = c .before .before in
+    let place = placed pair in
+    rw (← place .before .number .ensures, ← place .place .ensures) (puts-more _ _ _ _ 10 (omega arith) (pair .put-pair .ensures .0))
 
 pub put-refusal-spec : {M : Type 1} → statement M
 put-refusal-spec =

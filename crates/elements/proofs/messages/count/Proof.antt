@@ -47,43 +47,51 @@ enum-known-found-2 c = search needs
 fuel : (size count : ℕ) → count ≤ size → suc size - count ≡ suc (size - count)
 fuel size count h = omega arith
 
+-- a turn of the loop
+module _ (c : tie.At-loop Inv-loop μ-loop) where
+  abbrev start : tie.Start Inv-loop μ-loop
+  start = c .before .before
+
+  abbrev message : List ℕ
+  message = start .args .message .now
+
+  abbrev at : ℕ
+  at = c .loop .at
+
+  abbrev count : ℕ
+  count = c .loop .count
+
+  abbrev names : List ℕ
+  names = take count (c .loop .used)
+
+  so-far : answerOf (parsed message) ≡ counted count (stringsFrom (suc (length message - count)) message at names)
+  so-far = c .loop .inv .3 ∙ ap (λ (k : ℕ). counted count (stringsFrom k message at names)) (fuel (length message) count (omega arith))
+
 returns : tie.Need-returns Inv-loop μ-loop
 returns c =
-    let loop = c .before .before .before .before .loop in
-    let message = c .before .before .before .before .before .before .args .message .now in
+    let asked = c .before .before .before in
+    let t = asked .before in
     let f = c .before .found2 .given .0 .0 in
-    let here : stringAt message (loop .at) ≡ refused f = found-refused (stringAt message (loop .at)) f (sym (c .before .found2 .given .1) ∙ c .before .before .before .string-at .ensures) in
-    sym (loop .inv .3
-    ∙ ap (λ (k : ℕ). counted (loop .count) (stringsFrom k message (loop .at) (take (loop .count) (loop .used)))) (fuel (length message) (loop .count) (omega arith))
-    ∙ ap (counted (loop .count)) (from-refused (length message - loop .count) message (loop .at) (take (loop .count) (loop .used)) f here))
+    let here : stringAt (message t) (at t) ≡ refused f =
+    found-refused (stringAt (message t) (at t)) f (sym (c .before .found2 .given .1) ∙ asked .string-at .ensures) in
+    sym (so-far t ∙ ap (counted (count t)) (from-refused (length (message t) - count t) (message t) (at t) (names t) f here))
 
 -- a string was found
 module _ (c : tie.After-found Inv-loop μ-loop) where
-  abbrev message : List ℕ
-  message = c .before .before .before .before .before .args .message .now
-
-  abbrev loop : tie.At-loop Inv-loop μ-loop
-  loop = c .before .before .before
+  abbrev turn : tie.At-loop Inv-loop μ-loop
+  turn = c .before .before .before
 
   abbrev string : Element
   string = c .found .given .0 .0
 
-  abbrev names : List ℕ
-  names = take (loop .loop .count) (loop .loop .used)
+  here : stringAt (message turn) (at turn) ≡ made string
+  here = found-string (stringAt (message turn) (at turn)) string (sym (c .found .given .1) ∙ c .before .before .string-at .ensures)
 
-  here : stringAt message (loop .loop .at) ≡ made string
-  here = found-string (stringAt message (loop .loop .at)) string (sym (c .found .given .1) ∙ c .before .before .string-at .ensures)
+  bounds : string .last ≡ false → (string .next ≤ length (message turn)) × (at turn + 4 ≤ string .next)
+  bounds goes = next-within (message turn) (at turn) string (turn .loop .inv .0) here goes
 
-  so-far : answerOf (parsed message) ≡ counted (loop .loop .count) (stringsFrom (suc (length message - loop .loop .count)) message (loop .loop .at) names)
-  so-far =
-      loop .loop .inv .3
-      ∙ ap (λ (k : ℕ). counted (loop .loop .count) (stringsFrom k message (loop .loop .at) names)) (fuel (length message) (loop .loop .count) (omega arith))
-
-  bounds : string .last ≡ false → (string .next ≤ length message) × (loop .loop .at + 4 ≤ string .next)
-  bounds goes = next-within message (loop .loop .at) string (loop .loop .inv .0) here goes
-
-  room : string .last ≡ false → loop .loop .count < 12
-  room goes = omega (arith, bounds goes, c .before .before .before .before .before .pre)
+  room : string .last ≡ false → count turn < 12
+  room goes = omega (arith, bounds goes, start turn .pre)
 
 array-share-prefix-used : tie.Need-array-share-prefix-used Inv-loop μ-loop
 array-share-prefix-used c = omega arith
@@ -94,50 +102,67 @@ slice-aggregate-is-among c = simp length-take (omega arith)
 is-among-requires : tie.Need-is-among-requires Inv-loop μ-loop
 is-among-requires c κs = search needs
 
+-- whether its identifier was used is known
+module _ (c : tie.After-is-among Inv-loop μ-loop) where
+  abbrev found : tie.After-found Inv-loop μ-loop
+  found = c .before .before .before
+
 returns-2 : tie.Need-returns-2 Inv-loop μ-loop
 returns-2 c =
-    let f = c .before .before .before .before in
-    let k = length (message f) - loop f .loop .count in
-    sym (so-far f ∙ ap (counted (loop f .loop .count)) (from-repeated k (message f) (loop f .loop .at) (names f) (string f) (here f) (sym (c .before .is-among .ensures) ∙ c .if1 .taken)))
+    let f = found (c .before) in
+    let t = turn f in
+    let k = length (message t) - count t in
+    let repeated = sym (c .before .is-among .ensures) ∙ c .if1 .taken in
+    sym (so-far t ∙ ap (counted (count t)) (from-repeated k (message t) (at t) (names t) (string f) (here f) repeated))
+
+-- its identifier is another
+module _ (c : tie.Else1 Inv-loop μ-loop) where
+  abbrev new : tie.After-found Inv-loop μ-loop
+  new = found (c .before)
+
+  fresh : among (names (turn new)) (string new .identifier) ≡ false
+  fresh = sym (c .before .is-among .ensures) ∙ c .if1 .left
 
 add-t15 : tie.Need-add-t15 Inv-loop μ-loop
 add-t15 c = omega arith
 
 returns-3 : tie.Need-returns-3 Inv-loop μ-loop
 returns-3 c =
-    let f = c .before .before .before .before .before in
-    let k = length (message f) - loop f .loop .count in
-    sym (so-far f ∙ ap (counted (loop f .loop .count)) (from-last k (message f) (loop f .loop .at) (names f) (string f) (here f) (sym (c .before .before .is-among .ensures) ∙ c .before .if1 .left) (c .if2 .taken)))
+    let f = new (c .before) in
+    let t = turn f in
+    let k = length (message t) - count t in
+    sym (so-far t ∙ ap (counted (count t)) (from-last k (message t) (at t) (names t) (string f) (here f) (fresh (c .before)) (c .if2 .taken)))
 
 mul-used : tie.Need-mul-used Inv-loop μ-loop
-mul-used c = omega (arith, room (c .before .before .before .before .before) (c .if2 .left))
+mul-used c = omega (arith, room (new (c .before)) (c .if2 .left))
 
 array-write-used : tie.Need-array-write-used Inv-loop μ-loop
-array-write-used c = room (c .before .before .before .before .before) (c .if2 .left)
+array-write-used c = room (new (c .before)) (c .if2 .left)
 
 add-count : tie.Need-add-count Inv-loop μ-loop
 add-count c = omega arith
 
 loop-less : tie.Need-loop-less Inv-loop μ-loop
-loop-less c = omega (arith, bounds (c .before .before .before .before .before) (c .if2 .left))
+loop-less c = omega (arith, bounds (new (c .before)) (c .if2 .left))
 
 loop-again : tie.Need-loop-again Inv-loop μ-loop
 loop-again c =
-    let f = c .before .before .before .before .before in
-    let count = loop f .loop .count in
-    let used = loop f .loop .used in
+    let f = new (c .before) in
+    let t = turn f in
+    let n = count t in
+    let used = t .loop .used in
     let x = string f .identifier in
     let next = bounds f (c .if2 .left) in
     let small = room f (c .if2 .left) in
-    let fresh : among (names f) x ≡ false = sym (c .before .before .is-among .ensures) ∙ c .before .if1 .left in
-    let one-less : length (message f) - count ≡ suc (length (message f)) - (count + 1) = omega arith in
-    let one-more : names f ++ (x ∷ []) ≡ take (count + 1) (set used count x) = sym (ap (λ (n : ℕ). take n (set used count x)) (add-one count) ∙ take-suc-set used count x (omega arith)) in (
+    let one-less : length (message t) - n ≡ suc (length (message t)) - (n + 1) = omega arith in
+    let one-more : names t ++ (x ∷ []) ≡ take (n + 1) (set used n x) =
+    sym (ap (λ (k : ℕ). take k (set used n x)) (add-one n) ∙ take-suc-set used n x (omega arith)) in (
       next .0,
       omega arith,
-      length-set used count x ∙ loop f .loop .inv .2,
-      so-far f
-          ∙ from-more (length (message f) - count) (message f) (loop f .loop .at) (names f) (string f) (here f) fresh (c .if2 .left) count
-          ∙ ap₂ (λ (k : ℕ) (more : List ℕ). counted (count + 1) (stringsFrom k (message f) (string f .next) more)) one-less one-more,
+      length-set used n x ∙ t .loop .inv .2,
+      so-far t
+          ∙ from-more (length (message t) - n) (message t) (at t) (names t) (string f) (here f) (fresh (c .before)) (c .if2 .left) n
+          ∙ ap₂ (λ (k : ℕ) (more : List ℕ). counted (n + 1) (stringsFrom k (message t) (string f .next) more)) one-less one-more,
     )
 
 pub count-spec : {M : Type 1} → statement M
