@@ -1,1 +1,4 @@
+-- What the desk's pure part rests on.
+--
+--   Counts   a count that lies within a list
 mod Counts

@@ -1,15 +1,15 @@
 // `ean13 NUMBER`, `gs1 MESSAGE` and the other words that draw a symbol.
 ghost use Prim.Native.Nat.{_≤_, _<_};
 ghost use lib.ListN.{length};
-ghost use Rattle.calls.specs.Places.{placesOf, Filled};
-use crate::answers;
-use crate::answers::Form;
-use crate::messages;
-use crate::room::Room;
-use ean::Ean8;
-use ean::Ean13;
+ghost use Rattle.dialogue.specs.Places.{placesOf, Filled};
+use dialogue::answers;
+use dialogue::answers::Form;
+use dialogue::room::Room;
+use dialogue::typed;
+use ean8::Ean8;
+use ean13::Ean13;
 use gs1_128::Gs1128;
-use itf::Itf14;
+use itf14::Itf14;
 use refusal::Answer;
 use symbols::Kind;
 
@@ -21,7 +21,7 @@ pub fn draw(kind: Kind, typed: &[u8], room: Room, out: &mut [u8]) -> usize
 {
     let mut content = [0u8; 64];
     let mut drawn = [0u8; 700];
-    let end = messages::message_in(typed, &mut content);
+    let end = typed::message_in(typed, &mut content);
     let places = room.places(700);
     draw_in(kind, &content[0..end], &mut drawn[0..places], out)
 }

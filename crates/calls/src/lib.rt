@@ -1,18 +1,14 @@
 // The desk's lines: a call and its arguments in, one line of answer out. Nothing here reads or writes anything but the bytes it is lent.
-mod answers;
 mod digit;
 mod drawing;
-mod messages;
 mod reading;
-mod records;
-mod room;
-mod widths;
 mod words;
 
 ghost use Prim.Native.Nat.{_≤_, _<_};
 ghost use lib.ListN.{length};
-ghost use Rattle.calls.specs.Places.{placesOf};
-use room::Room;
+ghost use Rattle.dialogue.specs.Places.{placesOf};
+use dialogue::answers;
+use dialogue::room::Room;
 use text::Number;
 use words::Word;
 
@@ -70,14 +66,12 @@ fn call(line: &[u8], room: Room, out: &mut [u8]) -> usize
         return no_such_call(out);
     }
     let from = end + 1;
+    let arguments = &line[from..];
     match words::named(&line[0..end]) {
-        Word::Digit => digit::digit(&line[from..], out),
-        Word::Test => messages::test(&line[from..], out),
-        Word::Split => records::split(&line[from..], room, out),
-        Word::Ask => messages::ask(&line[from..], out),
-        Word::Add => messages::add(&line[from..], room, out),
-        Word::Draw(kind) => drawing::draw(kind, &line[from..], room, out),
-        Word::Read(which) => reading::read(which, &line[from..], room, out),
+        Word::Digit => digit::digit(arguments, out),
+        Word::Message(word) => message_lines::answer(word, arguments, room, out),
+        Word::Draw(kind) => drawing::draw(kind, arguments, room, out),
+        Word::Read(which) => reading::read(which, arguments, room, out),
         Word::Room => no_such_call(out),
         Word::Other => no_such_call(out),
     }

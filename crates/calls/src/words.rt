@@ -2,15 +2,13 @@
 ghost use mathlib.Core.Path.{_≡_};
 ghost use mathlib.Core.Bool.{true};
 use crate::reading::Which;
+use message_lines::MessageWord;
 use symbols::Kind;
 
 pub enum Word {
     Room,
     Digit,
-    Test,
-    Split,
-    Ask,
-    Add,
+    Message(MessageWord),
     Draw(Kind),
     Read(Which),
     Other,
@@ -24,16 +22,16 @@ pub fn named(bytes: &[u8]) -> Word {
         return Word::Digit;
     }
     if is_word(bytes, b"test") {
-        return Word::Test;
+        return Word::Message(MessageWord::Test);
     }
     if is_word(bytes, b"split") {
-        return Word::Split;
+        return Word::Message(MessageWord::Split);
     }
     if is_word(bytes, b"ask") {
-        return Word::Ask;
+        return Word::Message(MessageWord::Ask);
     }
     if is_word(bytes, b"add") {
-        return Word::Add;
+        return Word::Message(MessageWord::Add);
     }
     drawn_named(bytes)
 }

@@ -8,10 +8,10 @@ use borrow.Author.Tests.{eqb-true}
 use Rattle.refusal.specs.declared.Refusal.{Refusal}
 use Rattle.refusal.specs.Outcome.{Outcome, made, refused}
 use Rattle.refusal.proofs.OutcomeLaws.{made-not-refused}
-use Rattle.ean.specs.Ean13.{scanned13, reads13}
-use Rattle.ean.specs.Ean8.{scanned8, reads8}
-use Rattle.itf.specs.Itf14.{scanned14, reads14}
-use Rattle.itf.proofs.ScannedLaws.{scanned-parts}
+use Rattle.ean13.specs.Ean13.{scanned as scanned13, reads as reads13}
+use Rattle.ean8.specs.Ean8.{scanned as scanned8, reads as reads8}
+use Rattle.itf14.specs.Itf14.{scanned as scanned14, reads as reads14}
+use Rattle.itf14.proofs.ScannedLaws.{scanned-parts}
 use Rattle.gs1_128.specs.Right.{IsSymbol}
 use Rattle.damage.specs.Damage.{Damaged}
 use Rattle.damage.proofs.Damage.{call-refuses-damaged}

@@ -8,14 +8,10 @@ use libc::STDOUT_FILENO;
 
 const LONGEST_LINE: usize = 4096;
 
-const LONGEST_ANSWER: usize = 1024;
+// So many bytes of a line that hasn't ended tell that it is too long, whatever it goes on with.
+const OVER: usize = 4097;
 
-// What stands between two blocks: how many bytes of a line are held for the next one, or that the line is too long already and the
-// bytes up to its end are passed over.
-struct State {
-    held: usize,
-    skipping: bool,
-}
+const LONGEST_ANSWER: usize = 1024;
 
 fn main() {
     let mut input = io::large_buffer();
@@ -24,36 +20,31 @@ fn main() {
 }
 
 fn serve(input: &mut [u8], output: &mut [u8])
-    requires { ⌜ 4096 ≤ length (now input) ⌝ }
+    requires { ⌜ 4097 ≤ length (now input) ⌝ }
     requires { ⌜ 1024 ≤ length (now output) ⌝ }
 {
-    let state = take_blocks(input, output);
-    let held = state.held;
-    finish(&input[0..held], state.skipping, output);
+    let held = take_blocks(input, output);
+    finish(&input[0..held], output);
 }
 
-// Takes blocks to the end of the input. A proved loop has to end, and nothing says that the input does, so the loop counts its turns
-// down, from a number that no run uses up.
-fn take_blocks(input: &mut [u8], output: &mut [u8]) -> State
-    requires { ⌜ 4096 ≤ length (now input) ⌝ }
+// Takes blocks to the end of the input, and gives the count of bytes held of a line that hasn't ended. A proved loop has to end, and
+// nothing says that the input does, so the loop counts its turns down, from a number that no run uses up.
+fn take_blocks(input: &mut [u8], output: &mut [u8]) -> usize
+    requires { ⌜ 4097 ≤ length (now input) ⌝ }
     requires { ⌜ 1024 ≤ length (now output) ⌝ }
-    ensures { λ r. ⌜ r .held ≤ 4096 ⌝ }
+    ensures { λ r. ⌜ r ≤ 4097 ⌝ }
 {
-    let mut state = State {
-        held: 0,
-        skipping: false,
-    };
+    let mut held = 0;
     let mut turns = u64::MAX;
     while 0 < turns {
-        let held = state.held;
         let more = read_more(input, held);
         if more == 0 {
-            return state;
+            return held;
         }
-        state = take_block(input, held + more, state, output);
+        held = take_block(input, held, held + more, output);
         turns -= 1;
     }
-    state
+    held
 }
 
 // Reads a block after the bytes held, and gives its count of bytes: none at the end of the input, or where reading fails.
@@ -66,32 +57,27 @@ fn read_more(input: &mut [u8], held: usize) -> usize
     io::count(got, space)
 }
 
-// Answers the lines that end in a block, and holds what is left of it.
-fn take_block(input: &mut [u8], filled: usize, state: State, output: &mut [u8]) -> State
-    requires { ⌜ (state .held ≤ filled) × (filled ≤ length (now input)) ⌝ }
+// Answers the lines that end in a block, and holds the beginning of what is left of it. The first `held` bytes are known to have no byte 10.
+fn take_block(input: &mut [u8], held: usize, filled: usize, output: &mut [u8]) -> usize
+    requires { ⌜ (held ≤ filled) × (filled ≤ length (now input)) ⌝ }
     requires { ⌜ 1024 ≤ length (now output) ⌝ }
-    ensures { λ r. ⌜ r .held ≤ 4096 ⌝ }
+    ensures { λ r. ⌜ r ≤ 4097 ⌝ }
 {
-    let start = answer_lines(&input[0..filled], state, output);
-    if start == 0 {
-        return hold(input, 0, filled, state.skipping);
-    }
-    hold(input, start, filled, false)
+    let start = answer_lines(&input[0..filled], held, output);
+    lines::hold(input, start, filled, OVER)
 }
 
 // Answers each line that ends in a block, and gives the place where the line after the last of them begins.
-fn answer_lines(block: &[u8], state: State, output: &mut [u8]) -> usize
-    requires { ⌜ state .held ≤ length (now block) ⌝ }
+fn answer_lines(block: &[u8], held: usize, output: &mut [u8]) -> usize
+    requires { ⌜ held ≤ length (now block) ⌝ }
     requires { ⌜ 1024 ≤ length (now output) ⌝ }
     ensures { λ r. ⌜ r ≤ length (now (block .entry)) ⌝ }
 {
-    let mut skipping = state.skipping;
     let mut start = 0;
     let mut put = 0;
-    let mut end = lines::line_end(block, state.held);
+    let mut end = lines::line_end(block, held);
     while end < block.len() {
-        put = put_answer(&block[start..end], skipping, output, put);
-        skipping = false;
+        put = put_answer(&block[start..end], output, put);
         start = end + 1;
         end = lines::line_end(block, start);
     }
@@ -100,12 +86,12 @@ fn answer_lines(block: &[u8], state: State, output: &mut [u8]) -> usize
 }
 
 // Puts a line's answer after the `put` bytes of answers that wait in `output`, and gives the count of bytes that then wait.
-fn put_answer(line: &[u8], skipping: bool, output: &mut [u8], put: usize) -> usize
+fn put_answer(line: &[u8], output: &mut [u8], put: usize) -> usize
     requires { ⌜ (put ≤ length (now output)) × (1024 ≤ length (now output)) ⌝ }
     ensures { λ r. ⌜ r ≤ length (now (output .entry)) ⌝ }
 {
     let at = make_room(output, put);
-    at + answer_line(line, skipping, &mut output[at..])
+    at + answer_line(line, &mut output[at..])
 }
 
 // Where the next answer goes: after the others if it fits there for certain, else at the front, once they are written out.
@@ -120,48 +106,23 @@ fn make_room(output: &[u8], put: usize) -> usize
     0
 }
 
-fn answer_line(line: &[u8], skipping: bool, output: &mut [u8]) -> usize
+fn answer_line(line: &[u8], output: &mut [u8]) -> usize
     requires { ⌜ 1024 ≤ length (now output) ⌝ }
     ensures { λ r. ⌜ r ≤ 1024 ⌝ }
 {
-    if !skipping {
-        if line.len() <= LONGEST_LINE {
-            return calls::answer(line, output);
-        }
+    if line.len() <= LONGEST_LINE {
+        return calls::answer(line, output);
     }
     calls::too_long(output)
 }
 
-// Moves what is left of a block to the front, or drops it where its line is too long already.
-fn hold(input: &mut [u8], start: usize, filled: usize, skipping: bool) -> State
-    requires { ⌜ (start ≤ filled) × (filled ≤ length (now input)) ⌝ }
-    ensures { λ r. ⌜ r .held ≤ 4096 ⌝ }
-{
-    let rest = filled - start;
-    if !skipping {
-        if rest <= LONGEST_LINE {
-            lines::keep(input, start, rest);
-            return State {
-                held: rest,
-                skipping: false,
-            };
-        }
-    }
-    State {
-        held: 0,
-        skipping: true,
-    }
-}
-
 // Answers the bytes after the last byte 10, if there are any.
-fn finish(line: &[u8], skipping: bool, output: &mut [u8])
+fn finish(line: &[u8], output: &mut [u8])
     requires { ⌜ 1024 ≤ length (now output) ⌝ }
 {
-    if !skipping {
-        if line.len() == 0 {
-            return;
-        }
+    if line.len() == 0 {
+        return;
     }
-    let put = answer_line(line, skipping, output);
+    let put = answer_line(line, output);
     io::write_all(STDOUT_FILENO, &output[0..put]);
 }

@@ -19,11 +19,11 @@ use Rattle.digits.specs.Numbered.{numberRead}
 use Rattle.patterns.specs.Patterns.{same, valueIn}
 use Rattle.patterns.proofs.PatternLaws.{same-true, pattern-at}
 use Rattle.code128.specs.Characters.{patterns, stop}
-use Rattle.ean.specs.Tables.{guard, centre}
-use Rattle.ean.specs.Ean13.{scanned13, reads13}
-use Rattle.ean.specs.Ean8.{guarded8, scanned8, reads8}
-use Rattle.itf.specs.Itf14.{scanned14, reads14}
-use Rattle.itf.proofs.ScannedLaws.{scanned-parts}
+use Rattle.ean_upc.specs.Tables.{guard, centre}
+use Rattle.ean13.specs.Ean13.{scanned as scanned13, reads as reads13}
+use Rattle.ean8.specs.Ean8.{guarded as guarded8, scanned as scanned8, reads as reads8}
+use Rattle.itf14.specs.Itf14.{scanned as scanned14, reads as reads14}
+use Rattle.itf14.proofs.ScannedLaws.{scanned-parts}
 use Rattle.gs1_128.specs.Symbol.{permitted, starts, guarded, Scanned, scanned}
 use Rattle.gs1_128.specs.Calls as Gs1
 use Rattle.gs1_128.proofs.TableLaws.{starts-are}

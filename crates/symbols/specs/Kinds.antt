@@ -7,9 +7,9 @@ use lib.ListN.{length, getD}
 use lib.Dec.{eqb}
 use Rattle.refusal.specs.declared.Refusal.the-variants.{Count}
 use Rattle.refusal.specs.Outcome.{Outcome, made, refused, _>>_, must}
-use Rattle.ean.specs.Ean13.{reads13}
-use Rattle.ean.specs.Ean8.{reads8}
-use Rattle.itf.specs.Itf14.{reads14}
+use Rattle.ean13.specs.Ean13.{reads as reads13}
+use Rattle.ean8.specs.Ean8.{reads as reads8}
+use Rattle.itf14.specs.Itf14.{reads as reads14}
 use Rattle.gs1_128.specs.Symbol.{permitted}
 use Rattle.gs1_128.specs.Calls as Gs1
 use Rattle.symbols.specs.declared.Kind.{Kind}

@@ -4,10 +4,10 @@ ghost use lib.ListN.{length};
 ghost use Rattle.refusal.specs.Fills.{Fills};
 ghost use Rattle.symbols.specs.Kinds.{kindOf, readsAs, namedOf};
 ghost use Rattle.symbols.specs.Readings.{reads, FillsNamed};
-use ean::Ean8;
-use ean::Ean13;
+use ean8::Ean8;
+use ean13::Ean13;
 use gs1_128::Gs1128;
-use itf::Itf14;
+use itf14::Itf14;
 use refusal::Answer;
 use refusal::Refusal;
 

@@ -4,7 +4,7 @@ use mathlib.Core.Path.{sym, _∙_}
 use native.Mathlib.Omega.{arith}
 use lib.ListN.{length-take, length-drop}
 use borrow.Author.Needs.{needs}
-use Rattle.calls.proofs.Counts.{number-within}
+use Rattle.dialogue.proofs.Counts.{number-within}
 use Rattle.calls.proofs.in_room.Statement.{statement}
 use Rattle.calls.proofs.in_room.Tie as tie
 

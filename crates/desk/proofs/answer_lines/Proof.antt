@@ -7,10 +7,10 @@ use Rattle.desk.proofs.answer_lines.Statement.{statement}
 use Rattle.desk.proofs.answer_lines.Tie as tie
 
 abbrev Inv-loop : tie.InvT-loop
-Inv-loop block output₀ skipping₀ start₀ put₀ end₀ output skipping start put end = (start ≤ end) × (end ≤ length block) × (put ≤ length output) × (1024 ≤ length output) × (length output ≡ length output₀)
+Inv-loop block held output₀ start₀ put₀ end₀ output start put end = (start ≤ end) × (end ≤ length block) × (put ≤ length output) × (1024 ≤ length output) × (length output ≡ length output₀)
 
 abbrev μ-loop : tie.MeasureT-loop
-μ-loop block output₀ skipping₀ start₀ put₀ end₀ output skipping start put end = length block - end
+μ-loop block held output₀ start₀ put₀ end₀ output start put end = length block - end
 
 line-end-requires : tie.Need-line-end-requires Inv-loop μ-loop
 line-end-requires c κs = omega arith

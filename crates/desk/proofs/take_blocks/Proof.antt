@@ -1,4 +1,4 @@
--- `desk::take_blocks` is safe and ends: the turns that are left fall, and no more bytes are held than a line may have.
+-- `desk::take_blocks` is safe and ends: the turns that are left fall, and no more bytes are held than show that a line is too long.
 use Prim.Native.Nat.{_≤_}
 use mathlib.Core.Path.{_≡_}
 use native.Mathlib.Omega.{arith}
@@ -7,10 +7,10 @@ use Rattle.desk.proofs.take_blocks.Statement.{statement}
 use Rattle.desk.proofs.take_blocks.Tie as tie
 
 abbrev Inv-loop : tie.InvT-loop
-Inv-loop input₀ output₀ state₀ turns₀ input output state turns = (state .held ≤ 4096) × (4096 ≤ length input) × (1024 ≤ length output) × (length input ≡ length input₀) × (length output ≡ length output₀)
+Inv-loop input₀ output₀ held₀ turns₀ input output held turns = (held ≤ 4097) × (4097 ≤ length input) × (1024 ≤ length output) × (length input ≡ length input₀) × (length output ≡ length output₀)
 
 abbrev μ-loop : tie.MeasureT-loop
-μ-loop input₀ output₀ state₀ turns₀ input output state turns = turns
+μ-loop input₀ output₀ held₀ turns₀ input output held turns = turns
 
 loop-holds : tie.Need-loop-holds Inv-loop μ-loop
 loop-holds c = omega arith

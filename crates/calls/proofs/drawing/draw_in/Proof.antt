@@ -3,7 +3,7 @@ use Prim.Native.Nat.{ℕ}
 use mathlib.Core.Path.{sym, subst}
 use native.Mathlib.Omega.{arith}
 use borrow.Author.Needs.{needs}
-use Rattle.calls.specs.Places.{Filled}
+use Rattle.dialogue.specs.Places.{Filled}
 use Rattle.calls.proofs.drawing.draw_in.Statement.{statement}
 use Rattle.calls.proofs.drawing.draw_in.Tie as tie
 

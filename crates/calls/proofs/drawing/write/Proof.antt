@@ -1,8 +1,6 @@
 -- `calls::drawing::write` answers a count that lies within what it was lent, since each call it makes fills what it counts.
 use borrow.Author.Needs.{needs}
-use Rattle.calls.proofs.Counts.{filled}
-use borrow.Author.Needs.{needs}
-use Rattle.calls.proofs.Counts.{filled}
+use Rattle.dialogue.proofs.Counts.{filled}
 use Rattle.calls.proofs.drawing.write.Statement.{statement}
 use Rattle.calls.proofs.drawing.write.Tie as tie
 

@@ -3,8 +3,6 @@ use native.Mathlib.Omega.{arith}
 use lib.ListN.{length-take}
 use borrow.Author.Needs.{needs}
 use Rattle.calls.proofs.Counts.{named-within}
-use borrow.Author.Needs.{needs}
-use Rattle.calls.proofs.Counts.{named-within}
 use Rattle.calls.proofs.reading.read_any.Statement.{statement}
 use Rattle.calls.proofs.reading.read_any.Tie as tie
 

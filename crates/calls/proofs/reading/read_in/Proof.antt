@@ -4,8 +4,8 @@ use mathlib.Core.Path.{subst}
 use native.Mathlib.Omega.{arith}
 use lib.ListN.{length}
 use borrow.Author.Needs.{needs}
-use Rattle.calls.specs.Places.{Counted}
-use Rattle.calls.specs.declared.widths.Widths.{Widths}
+use Rattle.dialogue.specs.Places.{Counted}
+use Rattle.dialogue.specs.declared.typed.Widths.{Widths}
 use Rattle.calls.proofs.reading.read_in.Statement.{statement}
 use Rattle.calls.proofs.reading.read_in.Tie as tie
 

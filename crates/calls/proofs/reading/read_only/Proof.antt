@@ -3,8 +3,8 @@ use Prim.Native.Nat.{ℕ}
 use mathlib.Core.Path.{sym, subst}
 use native.Mathlib.Omega.{arith}
 use borrow.Author.Needs.{needs}
-use Rattle.calls.specs.Places.{Filled}
-use Rattle.calls.proofs.Counts.{filled}
+use Rattle.dialogue.specs.Places.{Filled}
+use Rattle.dialogue.proofs.Counts.{filled}
 use Rattle.calls.proofs.reading.read_only.Statement.{statement}
 use Rattle.calls.proofs.reading.read_only.Tie as tie
 

@@ -1,5 +1,0 @@
--- The desk's lines.
---
---   placesOf          Places   the count of places of the list that a call is lent
---   Filled, Counted   Places   a count that lies within a list
-pub mod Places

@@ -1,0 +1,5 @@
+-- What the desk's calls share.
+--
+--   placesOf          Places   the count of places of the list that a call is lent
+--   Filled, Counted   Places   a count that lies within a list
+pub mod Places

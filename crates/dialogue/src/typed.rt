@@ -1,0 +1,63 @@
+// What is typed as an argument: a list of widths, a message.
+ghost use Prim.Native.Nat.{_≤_, _<_};
+ghost use lib.ListN.{length};
+ghost use Rattle.dialogue.specs.Places.{Counted};
+use text::Number;
+
+pub enum Widths {
+    Count(usize),
+    Malformed,
+}
+
+// Puts the widths that a text says at the front of `widths`: without a space one digit to a width, with spaces decimal numbers from 0 to 255.
+pub fn widths_in(text: &[u8], widths: &mut [u8]) -> Widths
+    requires { ⌜ length (now text) < length (now widths) ⌝ }
+    ensures { λ r. ⌜ Counted r (length (now (widths .entry))) ⌝ }
+{
+    if lines::word_end(text, 0) == text.len() {
+        return digits_in(text, widths);
+    }
+    numbers_in(text, widths)
+}
+
+fn digits_in(text: &[u8], widths: &mut [u8]) -> Widths
+    requires { ⌜ length (now text) < length (now widths) ⌝ }
+    ensures { λ r. ⌜ Counted r (length (now (widths .entry))) ⌝ }
+{
+    let mut i = 0;
+    while i < text.len() {
+        if !digits::is_digit(text[i]) {
+            return Widths::Malformed;
+        }
+        widths[i] = text[i] % 16;
+        i += 1;
+    }
+    Widths::Count(i)
+}
+
+// Each number ends before a space or at the end of the text.
+fn numbers_in(text: &[u8], widths: &mut [u8]) -> Widths
+    requires { ⌜ length (now text) < length (now widths) ⌝ }
+    ensures { λ r. ⌜ Counted r (length (now (widths .entry))) ⌝ }
+{
+    let mut from = 0;
+    let mut count = 0;
+    while from <= text.len() {
+        let end = lines::word_end(text, from);
+        let Number::Is(width) = text::number_in(&text[from..end], 255) else {
+            return Widths::Malformed;
+        };
+        widths[count] = (width % 256) as u8;
+        count += 1;
+        from = end + 1;
+    }
+    Widths::Count(count)
+}
+
+// The message that was typed, as far as it fits. A message has at most 48 bytes and the data of a string at most 30, so what is longer than
+// 64 bytes is refused alike, whatever it goes on with.
+pub fn message_in(typed: &[u8], message: &mut [u8]) -> usize
+    ensures { λ r. ⌜ r ≤ length (now (message .entry)) ⌝ }
+{
+    text::message_in(typed, message)
+}

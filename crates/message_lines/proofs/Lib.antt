@@ -1,0 +1,4 @@
+-- What the lines on messages rest on.
+--
+--   Counts   counts that lie within a list
+mod Counts
