@@ -2,7 +2,7 @@
 -- digits are its bytes, so all that a symbology adds is that its scan and its drawing undo one another.
 use Prim.Native.Nat.{ℕ, _+_, _-_, _≤_, _<_}
 use mathlib.Core.Path.{_≡_, refl, sym, ap, ap₂, _∙_, subst}
-use mathlib.Core.Bool.{true, false}
+use mathlib.Core.Bool.{true}
 use mathlib.Core.List.{List, [], _∷_, map}
 use native.Mathlib.Nat.{add-sub-cancel-left}
 use native.Mathlib.Omega.{arith}
@@ -13,13 +13,15 @@ use borrow.Author.Tests.{le-leb, eqb-true, eq-eqb}
 use Rattle.laws.specs.Below.{Below}
 use Rattle.laws.specs.First.{firstNot}
 use Rattle.laws.proofs.FirstLaws.{all-pass, pass-all}
+use Rattle.refusal.specs.declared.Answer.{Answer}
 use Rattle.refusal.specs.declared.Answer.the-variants.{Done, Refused}
 use Rattle.refusal.specs.declared.Refusal.{Refusal}
 use Rattle.refusal.specs.declared.Refusal.the-variants.{Count, Character, CheckDigit}
-use Rattle.refusal.specs.Outcome.{Outcome, made, refused, must, _>>=_, _>>_}
-use Rattle.refusal.specs.Fills.{answerOf, laying}
+use Rattle.refusal.specs.Outcome.{Outcome, made, refused, must, _>>_}
+use Rattle.refusal.specs.Fills.{answerOf, Fills, FillsOwn, laying}
 use Rattle.refusal.proofs.OutcomeLaws.{made-same, must-made, bind-made, must-then}
-use Rattle.refusal.proofs.FillsLaws.{refused-of-answer, made-of-answer, laying-made, made-of-laying}
+use Rattle.refusal.proofs.FillsLaws.{refused-of-answer, made-of-answer, fills-passed, fills-same, laying-made, made-of-laying}
+use Rattle.refusal.proofs.OwnLaws.{own-made}
 use Rattle.digits.specs.Digit.{isDigit, valueOf, digitsOf}
 use Rattle.digits.specs.Check.{isRight, rightNumber}
 use Rattle.digits.specs.Numbered.{byteOf, numberWritten, numberRead}
@@ -87,15 +89,32 @@ bytes-are-digits ds below = pass-all isDigit (map byteOf ds) 48
     rw (List·getD-map byteOf ds i 0)
     (simp (le-leb 48 (byteOf (getD ds i 0)) (omega arith), le-leb (byteOf (getD ds i 0)) 57 (omega (arith, below i within)))))
 
--- the rules' last lines, once the first have passed
+-- the values that the test of a number has laid in as many places as it must have digits
+pub tested-values : (count : ℕ) (number before after : List ℕ) (r : Answer) (n : ℕ) → FillsOwn (rightNumber count number) before r after → r ≡ Done n → length before ≡ count → (after ≡ map valueOf number) × (length after ≡ count) × Below 10 after
+tested-values count number before after r n fills is long =
+    let known = right-done count number n (sym is ∙ fills .answer) in
+    let digits = right-of-parts count number (map valueOf number) known in
+    let counted : length (map valueOf number) ≡ count = length-map number valueOf ∙ known .counted in
+    let whole = own-made _ before after r n is fills (λ ds e. ap length (made-same ds _ (sym e ∙ digits)) ∙ counted ∙ sym long) in
+    let same : after ≡ map valueOf number = made-same _ _ (sym whole ∙ digits) in
+    (same, ap length same ∙ counted, subst (Below 10) (sym same) (values-are-digits number (known .all)))
+
+-- a call that tests a number and lays its symbol: the test's refusal is passed on, or the symbol laid
 module _ (count : ℕ) (symbol : List ℕ → List ℕ) (number : List ℕ) (room : ℕ) where
-  pub written-made : (ds : List ℕ) → rightNumber count number ≡ made ds → numberWritten count symbol number room ≡ laying (symbol ds) room
+  written-made : (ds : List ℕ) → rightNumber count number ≡ made ds → numberWritten count symbol number room ≡ laying (symbol ds) room
   unfolding numberWritten
   written-made ds e = rw e
 
-  pub written-refused : (f : Refusal) → rightNumber count number ≡ refused f → numberWritten count symbol number room ≡ refused f
-  unfolding numberWritten
-  written-refused f e = rw e
+  module _ (tested : Answer) (answer : tested ≡ answerOf (rightNumber count number)) where
+    pub written-refused : (f : Refusal) (lent : List ℕ) → tested ≡ Refused f → Fills (numberWritten count symbol number room) lent tested lent
+    unfolding numberWritten
+    written-refused f lent is = fills-passed _ f lent tested is (rw (refused-of-answer (rightNumber count number) f (sym is ∙ answer)))
+
+    pub written-laid : (n : ℕ) (bars lent after : List ℕ) (r : Answer) → tested ≡ Done n → bars ≡ symbol (map valueOf number) → Fills (laying bars room) lent r after → Fills (numberWritten count symbol number room) lent r after
+    written-laid n bars lent after r is drawn laid =
+        let ds = map valueOf number in
+        let digits = right-of-parts count number ds (right-done count number n (sym is ∙ answer)) in
+        fills-same _ (laying bars room) lent r after (written-made ds digits ∙ ap (λ (widths : List ℕ). laying widths room) (sym drawn)) laid
 
 -- what was written is the symbol of the number's digits, so equal numbers have equal bars, whatever the room
 module _ (count : ℕ) (symbol : List ℕ → List ℕ) where
@@ -117,40 +136,34 @@ module _ (count : ℕ) (symbol : List ℕ → List ℕ) where
       let w = written-symbol number widths room e in
       subst P (w .0) (of-symbol (map valueOf number) (length-map number valueOf ∙ w .1 .counted) (values-are-digits number (w .1 .all)))
 
-module _ (scanned : Outcome (List ℕ)) (room : ℕ) where
-  pub read-made : (ds : List ℕ) → scanned ≡ made ds → isRight ds ≡ true → numberRead scanned room ≡ laying (map byteOf ds) room
+-- a call that scans digits and lays their number: the scan's refusal is passed on, or the number of what it made is laid
+module _ (scanned : Outcome (List ℕ)) where
+  read-made : (room : ℕ) (ds : List ℕ) → scanned ≡ made ds → isRight ds ≡ true → numberRead scanned room ≡ laying (map byteOf ds) room
   unfolding numberRead
-  read-made ds e right = rw (e, right)
+  read-made room ds e right = rw (e, right)
 
-  pub read-wrong : (ds : List ℕ) → scanned ≡ made ds → isRight ds ≡ false → numberRead scanned room ≡ refused CheckDigit
+  pub read-refused : (before after : List ℕ) (r : Answer) → FillsOwn scanned before r after → (f : Refusal) (room : ℕ) (lent : List ℕ) → r ≡ Refused f → Fills (numberRead scanned room) lent r lent
   unfolding numberRead
-  read-wrong ds e wrong = rw (e, wrong)
+  read-refused before after r fills f room lent is = fills-passed _ f lent r is (rw (refused-of-answer scanned f (sym is ∙ fills .answer)))
 
-  pub read-refused : (f : Refusal) → scanned ≡ refused f → numberRead scanned room ≡ refused f
-  unfolding numberRead
-  read-refused f e = rw e
-
--- of digits, reading refuses and makes what the test of the number and its bytes do
-pub read-as-written : (number : List ℕ) (room : ℕ) → firstNot isDigit number ≡ length number → numberRead (made (map valueOf number)) room ≡ numberWritten (length number) (map byteOf) number room
+-- of digits, reading refuses and makes what writing their number as its bytes does
+pub read-as-written : (ds : List ℕ) (room : ℕ) → Below 10 ds → numberRead (made ds) room ≡ numberWritten (length ds) (map byteOf) (map byteOf ds) room
 unfolding numberRead numberWritten rightNumber
-read-as-written number room all = simp (eq-eqb (length number) (length number) refl, digits-made number all)
-    (must-then (isRight (map valueOf number)) CheckDigit (map valueOf number) (λ (ds : List ℕ). laying (map byteOf ds) room))
+read-as-written ds room below =
+    simp (eq-eqb (length (map byteOf ds)) (length ds) (length-map ds byteOf), digits-made (map byteOf ds) (bytes-are-digits ds below), values-of-bytes ds)
+    (must-then (isRight ds) CheckDigit ds (λ (digits : List ℕ). laying (map byteOf digits) room))
 
 -- Reading and drawing undo one another where the scan and the symbol do.
 module _ (count : ℕ) (symbol : List ℕ → List ℕ) (scanned : List ℕ → Outcome (List ℕ)) where
   pub read-of-write : ((ds : List ℕ) → length ds ≡ count → Below 10 ds → scanned (symbol ds) ≡ made ds) → (number widths : List ℕ) (room room′ : ℕ) → numberWritten count symbol number room ≡ made widths → count ≤ room′ → numberRead (scanned widths) room′ ≡ made number
-  unfolding numberWritten
   read-of-write back number widths room room′ e fits =
-      let w = bind-made (rightNumber count number) (λ (ds : List ℕ). laying (symbol ds) room) widths e in
-      let ds = w .0 in
-      let r = right-made count number ds (w .1) in
-      let drawn : symbol ds ≡ widths = made-of-laying (symbol ds) widths room (w .2) .1 in
-      let long : length ds ≡ count = ap length (r .values) ∙ length-map number valueOf ∙ r .counted in
-      let digits : Below 10 ds = subst (Below 10) (sym (r .values)) (values-are-digits number (r .all)) in
-      let scan : scanned widths ≡ made ds = ap scanned (sym drawn) ∙ back ds long digits in
-      read-made (scanned widths) room′ ds scan (r .right)
+      let w = written-symbol count symbol number widths room e in
+      let ds = map valueOf number in
+      let long : length ds ≡ count = length-map number valueOf ∙ w .1 .counted in
+      let scan : scanned widths ≡ made ds = ap scanned (sym (w .0)) ∙ back ds long (values-are-digits number (w .1 .all)) in
+      read-made (scanned widths) room′ ds scan (w .1 .right)
       ∙ laying-made (map byteOf ds) room′ (rw length-map (omega arith))
-      ∙ ap made (ap (map byteOf) (r .values) ∙ bytes-of-values number (r .all))
+      ∙ ap made (bytes-of-values number (w .1 .all))
 
   -- so no two numbers have the same bars
   pub one-number : ((ds : List ℕ) → length ds ≡ count → Below 10 ds → scanned (symbol ds) ≡ made ds) → (number number′ widths : List ℕ) (room room′ : ℕ) → numberWritten count symbol number room ≡ made widths → numberWritten count symbol number′ room′ ≡ made widths → number ≡ number′
@@ -169,6 +182,13 @@ module _ (count : ℕ) (symbol : List ℕ → List ℕ) (scanned : List ℕ → 
       written-made count symbol number room′ ds (ap (rightNumber count) (sym bytes) ∙ right-of-parts count (map byteOf ds) ds known)
       ∙ laying-made (symbol ds) room′ (rw (b .0) fits)
       ∙ ap made (b .0)
+
+  -- a scan that has filled a list of as many places
+  pub digits-scanned : ((widths ds : List ℕ) → scanned widths ≡ made ds → (symbol ds ≡ widths) × (length ds ≡ count) × Below 10 ds) → (widths before after : List ℕ) (r : Answer) (n : ℕ) → FillsOwn (scanned widths) before r after → r ≡ Done n → length before ≡ count → (scanned widths ≡ made after) × (length after ≡ count) × Below 10 after
+  digits-scanned back widths before after r n fills is places =
+      let e = own-made (scanned widths) before after r n is fills (λ ds e. back widths ds e .1 ∙ sym places) in
+      let parts = back widths after e in
+      (e, parts .1, parts .2)
 
   -- so no two lists are read as one number
   pub one-list : ((widths ds : List ℕ) → scanned widths ≡ made ds → (symbol ds ≡ widths) × (length ds ≡ count) × Below 10 ds) → (widths widths′ number : List ℕ) (room room′ : ℕ) → numberRead (scanned widths) room ≡ made number → numberRead (scanned widths′) room′ ≡ made number → widths ≡ widths′

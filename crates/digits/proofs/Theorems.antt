@@ -10,18 +10,18 @@ use lib.ListN.{length, getD, set, length-append, length-map, length-set, List·g
 use lib.Seq.{getD-append-seam}
 use borrow.Author.Tests.{le-leb}
 use Rattle.laws.specs.First.{firstNot}
-use Rattle.laws.proofs.Exchanged.{exchanged, length-exchanged, exchanged-map}
+use Rattle.laws.specs.Exchanged.{exchanged}
+use Rattle.laws.proofs.ExchangedLaws.{length-exchanged, exchanged-map}
 use Rattle.laws.proofs.FirstChanged.{pass-last, pass-set, pass-exchanged}
 use Rattle.laws.proofs.FirstLaws.{all-pass}
 use Rattle.laws.proofs.Mapped.{set-map}
 use Rattle.refusal.specs.declared.Refusal.the-variants.{CheckDigit}
 use Rattle.refusal.specs.Outcome.{made, refused}
 use Rattle.digits.specs.Digit.{isDigit, valueOf}
-use Rattle.digits.specs.Check.{checkOf, isRight, checkDigit, rightNumber}
+use Rattle.digits.specs.Check.{checkOf, isRight, checkDigit, rightNumber, FiveApart}
 use Rattle.digits.proofs.DigitLaws.{digit-range, digit-at}
 use Rattle.digits.proofs.NumberedLaws.{RightNumber, right-made, right-of-parts}
 use Rattle.digits.proofs.TheoremsOnRules.{wrong-check, check-digit}
-use Rattle.digits.proofs.TheoremsOnValues.{FiveApart}
 use Rattle.digits.proofs.TheoremsOnValues as values
 
 -- The digit computed makes the number right, and no other does.

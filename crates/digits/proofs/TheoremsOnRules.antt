@@ -1,32 +1,24 @@
--- What the two rules make, each case said by itself: the number's rule refuses at its first test that fails, and the check digit's rule
--- made something exactly if its tests pass.
-use Prim.Native.Nat.{ℕ, _≤_, _<_}
+-- What the two rules make: the number's rule refuses a wrong check digit where its other tests pass, and the check digit's rule makes
+-- something exactly if its tests pass.
+use Prim.Native.Nat.{ℕ, _≤_}
 use mathlib.Core.Path.{_≡_, refl, sym, ap, _∙_}
 use mathlib.Core.Bool.{Bool, true, false, _&&_}
 use mathlib.Core.Logic.{_↔_}
 use mathlib.Core.List.{List, map}
 use lib.ListN.{length}
 use lib.Dec.{leb}
-use borrow.Author.Tests.{leb-true, le-leb, eq-eqb, ne-eqb}
+use borrow.Author.Tests.{leb-true, le-leb, eq-eqb}
 use Rattle.laws.specs.First.{firstNot}
 use Rattle.laws.proofs.Booleans.{both-hold}
-use Rattle.refusal.specs.declared.Refusal.the-variants.{Count, Character, CheckDigit}
+use Rattle.refusal.specs.declared.Refusal.the-variants.{Count, CheckDigit}
 use Rattle.refusal.specs.Outcome.{made, refused}
 use Rattle.refusal.proofs.OutcomeLaws.{made-same, must-made, bind-made}
 use Rattle.digits.specs.Digit.{isDigit, valueOf, digitsOf}
 use Rattle.digits.specs.Check.{checkOf, isRight, checkDigit, rightNumber}
-use Rattle.digits.proofs.DigitLaws.{digits-made, digits-refused}
+use Rattle.digits.proofs.DigitLaws.{digits-made}
 use Rattle.digits.proofs.NumberedLaws.{digits-of-made}
 
--- the count is tested first, then the bytes, then the check digit
-pub wrong-count : (count : ℕ) (number : List ℕ) → (length number ≡ count → ⊥) → rightNumber count number ≡ refused Count
-unfolding rightNumber
-wrong-count count number other = simp (ne-eqb _ _ other)
-
-pub wrong-byte : (count : ℕ) (number : List ℕ) → length number ≡ count → firstNot isDigit number < length number → rightNumber count number ≡ refused (Character (firstNot isDigit number))
-unfolding rightNumber
-wrong-byte count number counted h = simp (eq-eqb _ _ counted, digits-refused number h)
-
+-- the count and the bytes pass, and the check digit doesn't
 pub wrong-check : (count : ℕ) (number : List ℕ) → length number ≡ count → firstNot isDigit number ≡ length number → (isRight (map valueOf number) ≡ true → ⊥) → rightNumber count number ≡ refused CheckDigit
 unfolding rightNumber
 wrong-check count number counted all wrong = simp (eq-eqb _ _ counted, digits-made number all, not-right (isRight (map valueOf number)) wrong)

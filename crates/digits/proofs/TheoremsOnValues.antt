@@ -12,10 +12,10 @@ use lib.Seq.{take-suc, take-length}
 use lib.Dec.{eqb, leb}
 use borrow.Author.Tests.{leb-true, leb-false, eqb-true, eq-eqb}
 use Rattle.laws.specs.Weighed.{weighed}
-use Rattle.laws.proofs.Exchanged.{exchanged}
+use Rattle.laws.specs.Exchanged.{exchanged}
 use Rattle.laws.proofs.Remainders.{same-below, same-if-balanced, same-without-factor, same-if-exchanged}
 use Rattle.laws.proofs.WeighedLaws.{weighed-of-nil, weighed-last, weighed-set, weighed-exchanged}
-use Rattle.digits.specs.Check.{weightAt, checkOf, isRight}
+use Rattle.digits.specs.Check.{weightAt, checkOf, isRight, FiveApart}
 use Rattle.digits.proofs.Weights.{weight-of-even, weight-turns}
 
 -- the weight of a digit that has k digits to its right, the check digit among them
@@ -105,9 +105,6 @@ change-is-seen ds i x right h old new other still =
     other (sym (same-below 10 d x old new (same-without-factor 10 (inverse .0) (weightIn k) d x (inverse .1) terms)))
 
 -- A right number with two unequal neighbours exchanged stays right exactly where they differ by 5.
-
-abbrev pub FiveApart : ℕ → ℕ → Type 0
-FiveApart a b = (a ≡ b + 5) ⊎ (b ≡ a + 5)
 
 -- the exchange changes the sum by twice the difference
 twice : (k a b : ℕ) → ((weightIn (suc k) * a + weightIn k * b) % 10 ≡ (weightIn (suc k) * b + weightIn k * a) % 10) ↔ ((2 * a) % 10 ≡ (2 * b) % 10)

@@ -1,7 +1,9 @@
 -- Document 01, "Numbers and check digit": "from the right, the digits before it weigh 3, 1, 3, ... in turn; it brings the sum to a
 -- multiple of 10."
 use Prim.Native.Nat.{ℕ, _+_, _-_, _%_}
+use mathlib.Core.Path.{_≡_}
 use mathlib.Core.Bool.{Bool, cond, _&&_}
+use mathlib.Core.Logic.{_⊎_}
 use mathlib.Core.List.{List}
 use lib.ListN.{length, getD, take}
 use lib.Dec.{leb, eqb}
@@ -37,3 +39,7 @@ rightNumber count number = do
   digits ← digitsOf number
   must (isRight digits) CheckDigit
   made digits
+
+-- two digits that differ by 5: exchanged, they change the sum by a multiple of 10
+abbrev pub FiveApart : ℕ → ℕ → Type 0
+FiveApart a b = (a ≡ b + 5) ⊎ (b ≡ a + 5)

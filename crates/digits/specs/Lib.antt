@@ -6,6 +6,7 @@
 --   checkOf, isRight   Check      the check digit of some digits; a number whose last digit is its check digit
 --   checkDigit         Check      the rule of the call that computes a check digit
 --   rightNumber        Check      the rule of the test that a number of a given count is right
+--   FiveApart          Check      two digits that differ by 5
 --   byteOf             Numbered   the byte of a digit
 --   numberWritten      Numbered   the rule of every call that draws a number
 --   numberRead         Numbered   the rule of every call that reads one

@@ -7,10 +7,10 @@ ghost use Rattle.laws.specs.First.{firstNot};
 ghost use Rattle.laws.specs.Below.{Below};
 ghost use Rattle.laws.specs.Weighed.{weighed};
 ghost use Rattle.refusal.specs.Outcome.{made};
-ghost use Rattle.refusal.specs.Fills.{answered, answerOf, Fills};
+ghost use Rattle.refusal.specs.Fills.{answered, answerOf, Fills, FillsOwn};
 ghost use Rattle.digits.specs.Digit.{isDigit, valueOf};
 ghost use Rattle.digits.specs.Check.{weightAt, checkDigit, rightNumber};
-ghost use Rattle.digits.specs.Numbered.{byteOf, numberRead};
+ghost use Rattle.digits.specs.Numbered.{numberRead};
 use refusal::Answer;
 use refusal::Refusal;
 
@@ -53,18 +53,42 @@ pub fn right_number(number: &[u8], count: usize) -> Answer
     }
 }
 
-// Lays a number that was read, if its last digit is its check digit: the end of every reading of a number.
-pub fn lay_number(number: &[u8], lent: &mut [u8]) -> Answer
-    requires { ⌜ 0 < length (now number) ⌝ }
-    requires { ⌜ length (now number) ≤ 18 ⌝ }
-    requires { ⌜ firstNot isDigit (now number) ≡ length (now number) ⌝ }
-    ensures { λ r. ⌜ Fills (numberRead (made (map valueOf (now (number .entry)))) (length (now (lent .entry)))) (now (lent .entry)) r (now (lent .exit)) ⌝ }
+// The digits of a right number by value, as many as there are places for.
+pub fn values_of(number: &[u8], values: &mut [u8]) -> Answer
+    requires { ⌜ 0 < length (now values) ⌝ }
+    requires { ⌜ length (now values) ≤ 18 ⌝ }
+    ensures { λ r. ⌜ FillsOwn (rightNumber (length (now (values .entry))) (now (number .entry))) (now (values .entry)) r (now (values .exit)) ⌝ }
 {
-    let tested = right_number(number, number.len());
+    let tested = right_number(number, values.len());
     let Answer::Done(_) = tested else {
         return tested;
     };
-    refusal::lay(number, lent)
+    let mut i = 0;
+    while i < values.len() {
+        values[i] = number[i] - b'0';
+        i += 1;
+    }
+    Answer::Done(i)
+}
+
+// Lays the number of these digits, if the last of them is its check digit: the end of every reading of a number.
+pub fn lay_values(values: &[u8], lent: &mut [u8]) -> Answer
+    requires { ⌜ 0 < length (now values) ⌝ }
+    requires { ⌜ length (now values) ≤ 18 ⌝ }
+    requires { ⌜ Below 10 (now values) ⌝ }
+    ensures { λ r. ⌜ Fills (numberRead (made (now (values .entry))) (length (now (lent .entry)))) (now (lent .entry)) r (now (lent .exit)) ⌝ }
+{
+    let mut number = [0u8; 18];
+    let mut i = 0;
+    while i < values.len() {
+        number[i] = b'0' + values[i];
+        i += 1;
+    }
+    let tested = right_number(&number[..i], i);
+    let Answer::Done(_) = tested else {
+        return tested;
+    };
+    refusal::lay(&number[..i], lent)
 }
 
 pub fn is_digit(byte: u8) -> bool
@@ -95,32 +119,6 @@ pub fn value_of(byte: u8) -> usize
     ensures { λ r. ⌜ r ≡ valueOf byte ⌝ }
 {
     (byte - b'0') as usize
-}
-
-// The values of a number's digits.
-pub fn values_of(number: &[u8], values: &mut [u8])
-    requires { ⌜ length (now values) ≡ length (now number) ⌝ }
-    requires { ⌜ firstNot isDigit (now number) ≡ length (now number) ⌝ }
-    ensures { λ _. ⌜ now (values .exit) ≡ map valueOf (now (number .entry)) ⌝ }
-{
-    let mut i = 0;
-    while i < number.len() {
-        values[i] = number[i] - b'0';
-        i += 1;
-    }
-}
-
-// The bytes of digits that are given by value.
-pub fn bytes_of(values: &[u8], number: &mut [u8])
-    requires { ⌜ length (now number) ≡ length (now values) ⌝ }
-    requires { ⌜ Below 10 (now values) ⌝ }
-    ensures { λ _. ⌜ now (number .exit) ≡ map byteOf (now (values .entry)) ⌝ }
-{
-    let mut i = 0;
-    while i < values.len() {
-        number[i] = b'0' + values[i];
-        i += 1;
-    }
 }
 
 // The sum of the digits before a check digit, each times its weight.

@@ -1,12 +1,10 @@
 -- What the functions' proofs rest on, and the theorems.
 --
---   ParityLaws    the ten parity rows, by computed tests
---   LeftHalf      the left half of thirteen digits
---   ScannedLaws   the lines of the scan, one after the other
---   SymbolLaws    the scan and the symbol undo one another
---   Theorems      the same of the calls' rules, and what follows
+--   ParityLaws   the ten parity rows, by computed tests
+--   LeftHalf     the left half of thirteen digits
+--   SymbolLaws   the scan and the symbol undo one another
+--   Theorems     the same of the calls' rules, and what follows
 pub mod ParityLaws
 pub mod LeftHalf
-pub mod ScannedLaws
 pub mod SymbolLaws
 pub mod Theorems

@@ -4,6 +4,7 @@ use Prim.Native.Nat.{ℕ, _≤_}
 use mathlib.Core.Path.{_≡_}
 use mathlib.Core.List.{List}
 use lib.ListN.{length}
+use Rattle.laws.specs.Below.{Below}
 use Rattle.refusal.specs.Outcome.{made}
 use Rattle.digits.proofs.NumberedLaws as Numbered
 use Rattle.ean13.specs.Ean13.{symbol, scanned, writes, reads}
@@ -36,3 +37,8 @@ one-list = Numbered.one-list 13 symbol scanned Symbol.symbol-of-scan
 pub length-of-symbol : (number widths : List ℕ) (room : ℕ) → writes number room ≡ made widths → length widths ≡ 59
 unfolding writes
 length-of-symbol = Numbered.of-written 13 symbol (λ (widths : List ℕ). length widths ≡ 59) Symbol.length-of-symbol
+
+-- every width has one digit
+pub widths-below : (number widths : List ℕ) (room : ℕ) → writes number room ≡ made widths → Below 10 widths
+unfolding writes
+widths-below = Numbered.of-written 13 symbol (Below 10) Symbol.widths-below

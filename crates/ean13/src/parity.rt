@@ -2,13 +2,13 @@
 ghost use mathlib.Core.Path.{_≡_};
 ghost use mathlib.Core.List.{[], map};
 ghost use Prim.Native.Nat.{_/_, _<_};
-ghost use lib.ListN.{getD};
-ghost use Rattle.ean_upc.specs.Halves.{matchIn, Candidate};
+ghost use lib.ListN.{length, getD};
+ghost use Rattle.patterns.specs.Matching.{matchIn, Candidate};
 ghost use Rattle.ean13.specs.Parity.{parityRows};
 use ean_upc::letters;
 use ean_upc::letters::A;
 use ean_upc::letters::B;
-use ean_upc::scan::Match;
+use patterns::Match;
 
 const PARITY: [[u8; 6]; 10] = [
     [A, A, A, A, A, A],
@@ -45,8 +45,9 @@ pub(crate) fn parity_row(digit: usize) -> [u8; 6]
 }
 
 // The first digit: the one whose parity row the letters of the left half are.
-pub(crate) fn first_digit(values: [u8; 6]) -> Match
-    ensures { λ r. ⌜ r ≡ matchIn parityRows (map (λ v. v / 10) values) ⌝ }
+pub(crate) fn first_digit(values: &[u8]) -> Match
+    requires { ⌜ length (now values) ≡ 6 ⌝ }
+    ensures { λ r. ⌜ r ≡ matchIn parityRows (map (λ v. v / 10) (now (values .entry))) ⌝ }
 {
     let letters = letters::letters_of(values);
     let digit = first_candidate(letters);

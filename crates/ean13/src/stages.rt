@@ -1,96 +1,49 @@
-// The stages of EAN-13: from a number or a scan to the digits, and from the digits to a symbol or a number.
+// The stages of EAN-13: from the digits to a symbol, and from a symbol to the digits.
 ghost use mathlib.Core.Path.{_≡_};
-ghost use mathlib.Core.List.{_∷_, _++_, map};
-ghost use Prim.Native.Nat.{_%_};
 ghost use lib.ListN.{length};
 ghost use Rattle.laws.specs.Below.{Below};
-ghost use Rattle.laws.specs.First.{firstNot};
-ghost use Rattle.refusal.specs.Outcome.{made};
-ghost use Rattle.refusal.specs.Fills.{Fills};
-ghost use Rattle.digits.specs.Digit.{isDigit, valueOf};
-ghost use Rattle.digits.specs.Numbered.{numberRead};
-ghost use Rattle.ean13.specs.Ean13.{symbol, guarded};
+ghost use Rattle.refusal.specs.Fills.{FillsOwn};
+ghost use Rattle.ean13.specs.Ean13.{symbol, scanned};
 use crate::Ean13;
 use crate::parity;
-use ean_upc::draw;
+use ean_upc::drawing;
 use ean_upc::letters;
+use ean_upc::scanning;
 use ean_upc::tables::Sets;
+use patterns::Match;
 use refusal::Answer;
+use refusal::Refusal;
 
-impl Ean13 {
-    pub(crate) fn of_number(number: &[u8]) -> Self
-        requires { ⌜ length (now number) ≡ 13 ⌝ }
-        requires { ⌜ firstNot isDigit (now number) ≡ length (now number) ⌝ }
-        ensures { λ r. ⌜ r .digits ≡ map valueOf (now (number .entry)) ⌝ }
-    {
-        let mut digits = [0u8; Ean13::DIGITS];
-        digits::values_of(number, &mut digits);
-        Self { digits }
-    }
+// how many characters a half has
+const HALF: usize = 6;
 
-    // From the digit of the parity row, the values of the left half, ten more in set B, and those of the right half.
-    pub(crate) fn of_scan(first: u8, left: [u8; 6], right: [u8; 6]) -> Self
-        ensures { λ r. ⌜ r .digits ≡ first ∷ (map (λ v. v % 10) left ++ right) ⌝ }
-    {
-        Self {
-            digits: [
-                first,
-                left[0] % 10,
-                left[1] % 10,
-                left[2] % 10,
-                left[3] % 10,
-                left[4] % 10,
-                left[5] % 10,
-                right[0],
-                right[1],
-                right[2],
-                right[3],
-                right[4],
-                right[5],
-            ],
-        }
-    }
+// The first digit chooses the row of the next six, and the last six are the right half.
+pub(crate) fn symbol(digits: &[u8]) -> [u8; Ean13::WIDTHS]
+    requires { ⌜ length (now digits) ≡ 13 ⌝ }
+    requires { ⌜ Below 10 (now digits) ⌝ }
+    ensures { λ r. ⌜ r ≡ symbol (now (digits .entry)) ⌝ }
+{
+    let row = parity::parity_row(digits[0] as usize);
+    let left = letters::in_sets(row, &digits[1..7]);
+    let mut symbol = [0u8; Ean13::WIDTHS];
+    drawing::halves(Sets::AOrB, &left, &digits[7..], &mut symbol);
+    symbol
+}
 
-    pub(crate) fn guarded(widths: &[u8]) -> bool
-        requires { ⌜ length (now widths) ≡ 59 ⌝ }
-        ensures { λ r. ⌜ r ≡ guarded (now (widths .entry)) ⌝ }
-    {
-        if !patterns::equal(&widths[..Ean13::LEFT_AT], &Ean13::GUARD) {
-            return false;
-        }
-        if !patterns::equal(&widths[Ean13::CENTRE_AT..Ean13::RIGHT_AT], &Ean13::CENTRE) {
-            return false;
-        }
-        patterns::equal(&widths[Ean13::END_AT..], &Ean13::GUARD)
-    }
-
-    pub(crate) fn symbol(self) -> [u8; 59]
-        requires { ⌜ Below 10 (self .digits) ⌝ }
-        ensures { λ r. ⌜ r ≡ symbol (self .digits) ⌝ }
-    {
-        let digits = self.digits;
-        let mut symbol = [0u8; Ean13::WIDTHS];
-        let row = parity::parity_row(digits[0] as usize);
-        let left = letters::in_sets(row, &digits[1..7]);
-        draw::symbol(
-            &Ean13::GUARD,
-            Sets::AOrB,
-            &left,
-            &Ean13::CENTRE,
-            &digits[7..],
-            &mut symbol,
-        );
-        symbol
-    }
-
-    // Lays the number in bytes, if its check digit is right.
-    pub(crate) fn lay(self, number: &mut [u8]) -> Answer
-        requires { ⌜ Below 10 (self .digits) ⌝ }
-        ensures { λ r. ⌜ Fills (numberRead (made (self .digits)) (length (now (number .entry)))) (now (number .entry)) r (now (number .exit)) ⌝ }
-    {
-        let digits = self.digits;
-        let mut bytes = [0u8; Ean13::DIGITS];
-        digits::bytes_of(&digits, &mut bytes);
-        digits::lay_number(&bytes, number)
-    }
+// The digits that widths hold: the one whose row the letters of the left half are, and then the characters' own.
+pub(crate) fn digits_in(widths: &[u8], digits: &mut [u8]) -> Answer
+    requires { ⌜ length (now digits) ≡ 13 ⌝ }
+    ensures { λ r. ⌜ FillsOwn (scanned (now (widths .entry))) (now (digits .entry)) r (now (digits .exit)) ⌝ }
+{
+    let mut values = [0u8; 12];
+    let halves = scanning::halves(Sets::AOrB, HALF, widths, &mut values);
+    let Answer::Done(_) = halves else {
+        return halves;
+    };
+    let Match::Value(first) = parity::first_digit(&values[..HALF]) else {
+        return Answer::Refused(Refusal::Pattern(12));
+    };
+    digits[0] = first;
+    letters::digits_of(&values, &mut digits[1..]);
+    Answer::Done(Ean13::DIGITS)
 }

@@ -50,5 +50,13 @@ values-again (v ∷ values) =
     let value : 10 * (v / 10) + v % 10 ≡ v = omega arith in
     ap₂ (λ (x : ℕ) (xs : List ℕ). x ∷ xs) value (values-again values)
 
+-- values below ten are their digits
+pub digits-of-below : (values : List ℕ) → Below 10 values → map (λ v. v % 10) values ≡ values
+digits-of-below [] below = refl
+digits-of-below (v ∷ values) below =
+    let first = below 0 (omega arith) in
+    let digit : v % 10 ≡ v = omega arith in
+    ap₂ (λ (x : ℕ) (xs : List ℕ). x ∷ xs) digit (digits-of-below values (below-rest 10 v values below))
+
 pub remainders-below : (values : List ℕ) → Below 10 (map (λ v. v % 10) values)
 remainders-below values i h = rw (List·getD-map (λ v. v % 10) values i 0) (omega arith)

@@ -1,17 +1,16 @@
--- A half of a symbol, document 01: "six characters in A or B", "six in set C", "four in A, four in C". Its characters are judged by the
--- patterns of its sets, and what the reader's matcher answers for one is said here.
-use Prim.Native.Nat.{ℕ, _<_}
-use mathlib.Core.Path.{_≡_}
-use mathlib.Core.Bool.{Bool, true, false}
-use mathlib.Core.List.{List, [], _++_}
-use lib.ListN.{length, getD}
-use lib.Dec.{ltb}
-use Rattle.patterns.specs.Patterns.{valueIn}
+-- A symbol of two halves, document 01: "guard 111, six characters in A or B, centre 11111, six in set C, guard 111"; "the same guards, four in
+-- A, four in C". A list is tested for its count, then every guard, then every character; the places of the right half go on from the left's.
+use Prim.Native.Nat.{ℕ, _+_, _*_}
+use mathlib.Core.Bool.{Bool, _&&_}
+use mathlib.Core.List.{List, _++_}
+use lib.ListN.{length, take, drop}
+use lib.Dec.{eqb}
+use Rattle.refusal.specs.declared.Refusal.the-variants.{Count, Guard}
+use Rattle.refusal.specs.Outcome.{Outcome, made, _>>=_, _>>_, must}
+use Rattle.patterns.specs.Patterns.{same, drawn, characters}
 use Rattle.ean_upc.specs.declared.tables.Sets.{Sets}
 use Rattle.ean_upc.specs.declared.tables.Sets.the-variants.{A, AOrB, C}
-use Rattle.ean_upc.specs.declared.scan.Match.{Match}
-use Rattle.ean_upc.specs.declared.scan.Match.the-variants.{Value, Nothing}
-use Rattle.ean_upc.specs.Tables.{setA, setB, setC}
+use Rattle.ean_upc.specs.Tables.{setA, setB, setC, guard, centre}
 
 -- a half's patterns: in A or B ten more than the digit is the digit in set B
 abbrev pub patternsOf : Sets → List (List ℕ)
@@ -19,15 +18,19 @@ patternsOf A = setA
 patternsOf AOrB = setA ++ setB
 patternsOf C = setC
 
--- the matcher's answer, by whether a pattern was found
-abbrev pub answerIf : Bool → ℕ → Match
-answerIf true value = Value value
-answerIf false value = Nothing
+unfoldable pub halvesDrawn : Sets → List ℕ → List ℕ → List ℕ
+halvesDrawn sets left right = guard ++ drawn (patternsOf sets) left ++ centre ++ drawn setC right ++ guard
 
--- the matcher's answer for a list: its value in a table of patterns, or that it has none
-abbrev pub matchIn : List (List ℕ) → List ℕ → Match
-matchIn patterns widths = answerIf (ltb (valueIn patterns widths) (length patterns)) (valueIn patterns widths)
+-- three guards, and between them halves of n characters each
+unfoldable pub guarded : ℕ → List ℕ → Bool
+guarded n widths =
+    same (take 3 widths) guard && same (take 5 (drop (3 + 4 * n) widths)) centre && same (drop (3 + 4 * n + 5 + 4 * n) widths) guard
 
--- if a pattern of the table is this list, it is the one of this value
-abbrev pub Candidate : List (List ℕ) → List ℕ → ℕ → Type 0
-Candidate patterns widths value = (v : ℕ) → v < length patterns → getD patterns v [] ≡ widths → value ≡ v
+-- the values of n characters and of n more: refusals 1, 4 and 5
+unfoldable pub halvesIn : Sets → ℕ → List ℕ → Outcome (List ℕ)
+halvesIn sets n widths = do
+  must (eqb (length widths) (3 + 4 * n + 5 + 4 * n + 3)) Count
+  must (guarded n widths) Guard
+  left ← characters (patternsOf sets) 4 n 0 (drop 3 widths)
+  right ← characters setC 4 n n (drop (3 + 4 * n + 5) widths)
+  made (left ++ right)

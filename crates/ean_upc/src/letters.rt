@@ -1,7 +1,7 @@
 // Letters: which of sets A and B a digit is in. Its value in both is the digit, or ten more in set B.
 ghost use mathlib.Core.Path.{_≡_};
 ghost use mathlib.Core.List.{map};
-ghost use Prim.Native.Nat.{_+_, _*_, _/_, _<_, _≤_};
+ghost use Prim.Native.Nat.{_/_, _%_};
 ghost use lib.ListN.{length};
 ghost use Rattle.laws.specs.Below.{Below};
 ghost use Rattle.ean_upc.specs.Letters.{inSets};
@@ -20,27 +20,16 @@ pub fn in_sets(letters: [u8; 6], digits: &[u8]) -> [u8; 6]
     let mut values = [0u8; 6];
     let mut i = 0;
     while i < 6 {
-        values[i] = in_set(letters[i], digits[i]);
+        values[i] = 10 * letters[i] + digits[i];
         i += 1;
     }
     values
 }
 
-// A digit's value in the set that a letter names.
-fn in_set(letter: u8, digit: u8) -> u8
-    requires { ⌜ letter ≤ 1 ⌝ }
-    requires { ⌜ digit < 10 ⌝ }
-    ensures { λ r. ⌜ r ≡ 10 * letter + digit ⌝ }
-{
-    match letter {
-        A => digit,
-        _ => 10 + digit,
-    }
-}
-
-// The letter of each value.
-pub fn letters_of(values: [u8; 6]) -> [u8; 6]
-    ensures { λ r. ⌜ r ≡ map (λ v. v / 10) values ⌝ }
+// The letter of each of six values.
+pub fn letters_of(values: &[u8]) -> [u8; 6]
+    requires { ⌜ length (now values) ≡ 6 ⌝ }
+    ensures { λ r. ⌜ r ≡ map (λ v. v / 10) (now (values .entry)) ⌝ }
 {
     [
         values[0] / 10,
@@ -50,4 +39,16 @@ pub fn letters_of(values: [u8; 6]) -> [u8; 6]
         values[4] / 10,
         values[5] / 10,
     ]
+}
+
+// The digit of each value.
+pub fn digits_of(values: &[u8], digits: &mut [u8])
+    requires { ⌜ length (now digits) ≡ length (now values) ⌝ }
+    ensures { λ _. ⌜ now (digits .exit) ≡ map (λ v. v % 10) (now (values .entry)) ⌝ }
+{
+    let mut i = 0;
+    while i < values.len() {
+        digits[i] = values[i] % 10;
+        i += 1;
+    }
 }

@@ -26,9 +26,16 @@ impl Sets {
     }
 }
 
-pub const GUARD: [u8; 3] = [1, 1, 1];
+pub const GUARD: [u8; GUARD_WIDTHS] = [1, 1, 1];
 
-pub const CENTRE: [u8; 5] = [1, 1, 1, 1, 1];
+pub const CENTRE: [u8; CENTRE_WIDTHS] = [1, 1, 1, 1, 1];
+
+pub const GUARD_WIDTHS: usize = 3;
+
+pub const CENTRE_WIDTHS: usize = 5;
+
+// A character is four widths, two bars and two spaces.
+pub const CHARACTER: usize = 4;
 
 const SET_A: [[u8; 4]; 10] = [
     [3, 2, 1, 1],

@@ -1,38 +1,21 @@
--- Two lists interleaved: each stands at every second place. The table of pairs has each two digits' elements interleaved, at ten times
--- the first and the second.
-use Prim.Native.Nat.{ℕ, zero, suc, _+_, _*_, _/_, _%_, _<_}
+-- The table of pairs, by computed tests: each two digits' elements stand interleaved at ten times the first and the second, no two pairs are
+-- equal, and the two digits that widths weigh are the only ones that they can draw.
+use Prim.Native.Nat.{ℕ, _+_, _*_, _/_, _%_, _<_}
 use mathlib.Core.Path.{_≡_, refl}
 use mathlib.Core.Bool.{Bool, true, false}
-use mathlib.Core.List.{List, [], _∷_}
-use native.Mathlib.Nat.{suc-inj}
-use native.Mathlib.Numerals.{add-one}
+use mathlib.Core.List.{List, []}
 use native.Mathlib.Omega.{arith}
 use lib.Dec.{T, eqb, eqb→eq}
 use lib.ListN.{length, getD}
+use Rattle.laws.specs.First.{firstNot}
 use Rattle.laws.proofs.Tables.{every, at-entry}
-use Rattle.patterns.specs.Patterns.{same}
-use Rattle.patterns.proofs.PatternLaws.{same-true}
+use Rattle.patterns.specs.Patterns.{same, valueIn}
+use Rattle.patterns.specs.Matching.{Candidate}
+use Rattle.patterns.proofs.PatternLaws.{same-true, distinct}
 use Rattle.patterns.proofs.CharacterLaws.{sized}
+use Rattle.patterns.proofs.MatchLaws.{finds, one-candidate}
 use Rattle.itf14.specs.Tables.{digitRows, interleaved, pairs}
-use Rattle.itf14.proofs.PairedLaws.{twice-more}
-
-pub length-interleaved : (xs ys : List ℕ) → length xs ≡ length ys → length (interleaved xs ys) ≡ 2 * length xs
-length-interleaved [] ys e = refl
-length-interleaved (x ∷ xs) [] e = absurd (omega arith)
-length-interleaved (x ∷ xs) (y ∷ ys) e = rw (twice-more, length-interleaved xs ys (suc-inj e))
-
-pub interleaved-first : (xs ys : List ℕ) (i : ℕ) → length xs ≡ length ys → getD (interleaved xs ys) (2 * i) 0 ≡ getD xs i 0
-interleaved-first [] ys i e = refl
-interleaved-first (x ∷ xs) [] i e = absurd (omega arith)
-interleaved-first (x ∷ xs) (y ∷ ys) zero e = refl
-interleaved-first (x ∷ xs) (y ∷ ys) (suc i) e = rw twice-more (interleaved-first xs ys i (suc-inj e))
-
-pub interleaved-second : (xs ys : List ℕ) (i : ℕ) → length xs ≡ length ys → getD (interleaved xs ys) (2 * i + 1) 0 ≡ getD ys i 0
-interleaved-second [] [] i e = refl
-interleaved-second [] (y ∷ ys) i e = absurd (omega arith)
-interleaved-second (x ∷ xs) [] i e = absurd (omega arith)
-interleaved-second (x ∷ xs) (y ∷ ys) zero e = refl
-interleaved-second (x ∷ xs) (y ∷ ys) (suc i) e = rw (add-one, twice-more, ← add-one (2 * i)) (interleaved-second xs ys i (suc-inj e))
+use Rattle.itf14.specs.Candidates.{wideOf, candidateAt}
 
 T-true : (b : Bool) → T b → b ≡ true
 T-true true t = refl
@@ -62,3 +45,18 @@ pair-at a b ha hb =
     let second : (10 * a + b) % 10 ≡ b = omega arith in
     let t = at-entry drawsTwo [] pairs drawn-two (10 * a + b) (rw length-pairs (omega arith)) in
     rw (first, second) at (same-true _ _ (T-true _ t))
+
+pub distinct-pairs : T (distinct pairs)
+unfolding pairs valueIn firstNot same
+distinct-pairs = tt
+
+-- the pair of the digits that some widths weigh
+abbrev pairOf : List ℕ → ℕ
+pairOf widths = 10 * candidateAt 0 widths + candidateAt 1 widths
+
+found-pairs : T (every (finds pairOf) pairs)
+unfolding pairs candidateAt wideOf
+found-pairs = tt
+
+pub one-pair : (widths : List ℕ) → Candidate pairs widths (10 * candidateAt 0 widths + candidateAt 1 widths)
+one-pair widths = one-candidate pairOf pairs found-pairs widths

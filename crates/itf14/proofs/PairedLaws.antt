@@ -1,15 +1,13 @@
 -- Digits taken two by two, and back: a pair's digits stand at twice its place and one further.
 use Prim.Native.Nat.{ℕ, zero, suc, _+_, _*_, _/_, _%_, _<_}
 use mathlib.Core.Path.{_≡_, refl, ap, ap₂}
-use mathlib.Core.List.{List, [], _∷_, _++_}
+use mathlib.Core.List.{List, [], _∷_}
 use native.Mathlib.Nat.{le-of-suc-le-suc, not-suc-le-zero}
 use native.Mathlib.Numerals.{add-one}
 use native.Mathlib.Omega.{arith}
-use lib.ListN.{length, getD, drop}
-use lib.Seq.{drop-cons}
+use lib.ListN.{length, getD}
 use Rattle.laws.specs.Below.{Below}
 use Rattle.laws.proofs.BelowLaws.{below-rest, below-drop}
-use Rattle.patterns.specs.Patterns.{drawn}
 use Rattle.itf14.specs.Itf14.{paired, unpaired}
 
 pub twice-more : (i : ℕ) → 2 * suc i ≡ suc (suc (2 * i))
@@ -29,12 +27,11 @@ unpaired-second [] i = refl
 unpaired-second (v ∷ values) zero = refl
 unpaired-second (v ∷ values) (suc i) = rw (add-one, twice-more, ← add-one (2 * i)) (unpaired-second values i)
 
--- the first pair of what is left of the digits, drawn
-pub drawn-more : (patterns : List (List ℕ)) (digits : List ℕ) (i : ℕ) → 2 * i + 1 < length digits → drawn patterns (paired (drop (2 * i) digits)) ≡ getD patterns (10 * getD digits (2 * i) 0 + getD digits (2 * i + 1) 0) [] ++ drawn patterns (paired (drop (2 * (i + 1)) digits))
-unfolding drawn
-drawn-more patterns digits i h =
-    let next : 2 * (i + 1) ≡ suc (suc (2 * i)) = omega arith in
-    rw (next, add-one (2 * i), drop-cons digits (2 * i) 0 (omega arith), drop-cons digits (suc (2 * i)) 0 (omega arith))
+pub paired-at : (digits : List ℕ) (i : ℕ) → 2 * i + 1 < length digits → getD (paired digits) i 0 ≡ 10 * getD digits (2 * i) 0 + getD digits (2 * i + 1) 0
+paired-at [] i h = absurd (not-suc-le-zero h)
+paired-at (a ∷ []) i h = absurd (omega arith)
+paired-at (a ∷ b ∷ digits) zero h = refl
+paired-at (a ∷ b ∷ digits) (suc i) h = rw (add-one, twice-more, ← add-one (2 * i)) (paired-at digits i (omega arith))
 
 -- the digits of pairs below a hundred are digits
 pub unpaired-digits : (values : List ℕ) → Below 100 values → Below 10 (unpaired values)

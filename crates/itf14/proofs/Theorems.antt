@@ -5,10 +5,11 @@ use mathlib.Core.Path.{_≡_}
 use mathlib.Core.List.{List}
 use lib.ListN.{length}
 use Rattle.laws.specs.Sum.{sum}
+use Rattle.laws.specs.Below.{Below}
 use Rattle.refusal.specs.Outcome.{made}
 use Rattle.digits.proofs.NumberedLaws as Numbered
 use Rattle.itf14.specs.Itf14.{symbol, scanned, writes, reads}
-use Rattle.itf14.proofs.SymbolLaws.{scan-of-symbol, symbol-of-scan}
+use Rattle.itf14.proofs.SymbolLaws.{scan-of-symbol, symbol-of-scan, widths-below as below-of-symbol}
 pub use Rattle.itf14.proofs.SymbolLaws.{length-of-symbol, sum-of-symbol}
 
 pub read-of-write : (number widths : List ℕ) (room room′ : ℕ) → writes number room ≡ made widths → 14 ≤ room′ → reads widths room′ ≡ made number
@@ -41,3 +42,8 @@ length-of-written = Numbered.of-written 14 symbol (λ (widths : List ℕ). lengt
 pub sum-of-written : (number widths : List ℕ) (room : ℕ) → writes number room ≡ made widths → sum widths ≡ 241
 unfolding writes
 sum-of-written = Numbered.of-written 14 symbol (λ (widths : List ℕ). sum widths ≡ 241) sum-of-symbol
+
+-- every width has one digit
+pub widths-below : (number widths : List ℕ) (room : ℕ) → writes number room ≡ made widths → Below 10 widths
+unfolding writes
+widths-below = Numbered.of-written 14 symbol (Below 10) below-of-symbol

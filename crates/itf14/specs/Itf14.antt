@@ -1,13 +1,10 @@
 -- Document 01: "ITF-14, 77 widths, narrow 2, wide 5: start 2222, seven pairs, stop 522. Sum 241." The place of refusal 5 is the pair's.
 use Prim.Native.Nat.{ℕ, _+_, _*_, _/_, _%_}
-use mathlib.Core.Bool.{Bool, _&&_}
 use mathlib.Core.List.{List, [], _∷_, _++_}
-use lib.ListN.{length, take, drop}
-use lib.Dec.{eqb}
-use Rattle.refusal.specs.declared.Refusal.the-variants.{Count, Guard}
-use Rattle.refusal.specs.Outcome.{Outcome, made, _>>=_, _>>_, must}
+use Rattle.refusal.specs.Outcome.{Outcome, made, _>>=_}
 use Rattle.digits.specs.Numbered.{numberWritten, numberRead}
-use Rattle.patterns.specs.Patterns.{same, drawn, characters}
+use Rattle.patterns.specs.Patterns.{drawn}
+use Rattle.patterns.specs.Between.{between}
 use Rattle.itf14.specs.Tables.{pairs, start, stop}
 
 -- digits taken two by two, and back
@@ -23,14 +20,9 @@ unpaired (value ∷ values) = (value / 10) ∷ (value % 10) ∷ unpaired values
 unfoldable pub symbol : List ℕ → List ℕ
 symbol digits = start ++ drawn pairs (paired digits) ++ stop
 
-unfoldable pub guarded : List ℕ → Bool
-guarded widths = same (take 4 widths) start && same (drop 74 widths) stop
-
 unfoldable pub scanned : List ℕ → Outcome (List ℕ)
 scanned widths = do
-  must (eqb (length widths) 77) Count
-  must (guarded widths) Guard
-  values ← characters pairs 10 7 0 (drop 4 widths)
+  values ← between start stop pairs 10 7 widths
   made (unpaired values)
 
 unfoldable pub writes : List ℕ → ℕ → Outcome (List ℕ)

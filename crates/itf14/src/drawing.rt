@@ -1,17 +1,28 @@
 // Drawing: ten widths at a time, each pair's lent on to be written.
 ghost use mathlib.Core.Path.{_≡_};
-ghost use mathlib.Core.List.{[]};
-ghost use Prim.Native.Nat.{_+_, _*_, _<_};
-ghost use lib.ListN.{length, getD};
+ghost use lib.ListN.{length};
 ghost use Rattle.laws.specs.Below.{Below};
 ghost use Rattle.patterns.specs.Patterns.{drawn};
 ghost use Rattle.itf14.specs.Tables.{pairs};
-ghost use Rattle.itf14.specs.Itf14.{paired};
+ghost use Rattle.itf14.specs.Itf14.{paired, symbol};
 use crate::Itf14;
 use crate::tables;
 
+// Draws fourteen digits between the start and the stop.
+pub fn symbol(digits: &[u8]) -> [u8; Itf14::WIDTHS]
+    requires { ⌜ length (now digits) ≡ 14 ⌝ }
+    requires { ⌜ Below 10 (now digits) ⌝ }
+    ensures { λ r. ⌜ r ≡ symbol (now (digits .entry)) ⌝ }
+{
+    let mut symbol = [0u8; Itf14::WIDTHS];
+    refusal::lay(&Itf14::START, &mut symbol);
+    draw_pairs(digits, &mut symbol[Itf14::PAIRS_AT..Itf14::STOP_AT]);
+    refusal::lay(&Itf14::STOP, &mut symbol[Itf14::STOP_AT..]);
+    symbol
+}
+
 // Draws fourteen digits, two by two.
-pub fn draw_pairs(digits: &[u8], to: &mut [u8])
+fn draw_pairs(digits: &[u8], to: &mut [u8])
     requires { ⌜ length (now digits) ≡ 14 ⌝ }
     requires { ⌜ Below 10 (now digits) ⌝ }
     requires { ⌜ length (now to) ≡ 70 ⌝ }
@@ -20,28 +31,8 @@ pub fn draw_pairs(digits: &[u8], to: &mut [u8])
     let mut i = 0;
     while i < Itf14::PAIRS {
         let at = Itf14::PAIR * i;
-        draw_pair(
-            digits[2 * i],
-            digits[2 * i + 1],
-            &mut to[at..at + Itf14::PAIR],
-        );
-        i += 1;
-    }
-}
-
-// Draws the first digit in the bars and the second in the spaces.
-fn draw_pair(first: u8, second: u8, pair: &mut [u8])
-    requires { ⌜ first < 10 ⌝ }
-    requires { ⌜ second < 10 ⌝ }
-    requires { ⌜ length (now pair) ≡ 10 ⌝ }
-    ensures { λ _. ⌜ now (pair .exit) ≡ getD pairs (10 * first + second) [] ⌝ }
-{
-    let bars = tables::DIGITS[first as usize];
-    let spaces = tables::DIGITS[second as usize];
-    let mut i = 0;
-    while i < 5 {
-        pair[2 * i] = bars[i];
-        pair[2 * i + 1] = spaces[i];
+        let pair = tables::pair(digits[2 * i] as usize, digits[2 * i + 1] as usize);
+        refusal::lay(&pair, &mut to[at..at + Itf14::PAIR]);
         i += 1;
     }
 }

@@ -1,48 +1,54 @@
-// What widths hold: the guards, and the value of each pair.
+// What widths hold: the value of each pair between the start and the stop.
 ghost use mathlib.Core.Path.{_≡_};
 ghost use Prim.Native.Nat.{_*_, _≤_, _<_};
 ghost use lib.ListN.{length};
 ghost use Rattle.refusal.specs.Fills.{FillsOwn};
-ghost use Rattle.patterns.specs.Patterns.{same, valueIn, characters};
-ghost use Rattle.itf14.specs.Tables.{pairs, interleaved};
-ghost use Rattle.itf14.specs.Itf14.{unpaired, guarded};
-ghost use Rattle.itf14.specs.Matching.{matchOf, wideOf, weightAt, candidateAt};
+ghost use Rattle.patterns.specs.Matching.{matchIn};
+ghost use Rattle.patterns.specs.Between.{between};
+ghost use Rattle.itf14.specs.Tables.{pairs, start, stop};
+ghost use Rattle.itf14.specs.Itf14.{unpaired, scanned};
+ghost use Rattle.itf14.specs.Candidates.{wideOf, weightAt, candidateAt};
 use crate::Itf14;
 use crate::tables;
+use patterns::Match;
 use refusal::Answer;
 use refusal::Refusal;
 
-// The value of a pair, 0 to 99, or that it has none.
-pub enum Match {
-    Value(usize),
-    Nothing,
-}
-
-pub fn guarded(widths: &[u8]) -> bool
-    requires { ⌜ length (now widths) ≡ 77 ⌝ }
-    ensures { λ r. ⌜ r ≡ guarded (now (widths .entry)) ⌝ }
+// The digits that widths hold, two to a pair.
+pub fn digits_in(widths: &[u8], digits: &mut [u8]) -> Answer
+    requires { ⌜ length (now digits) ≡ 14 ⌝ }
+    ensures { λ r. ⌜ FillsOwn (scanned (now (widths .entry))) (now (digits .entry)) r (now (digits .exit)) ⌝ }
 {
-    let start = Itf14::START;
-    let stop = Itf14::STOP;
-    if !patterns::equal(&widths[..Itf14::PAIRS_AT], &start) {
-        return false;
-    }
-    patterns::equal(&widths[Itf14::STOP_AT..], &stop)
+    let mut values = [0u8; Itf14::PAIRS];
+    let scanned = pair_values(widths, &mut values);
+    let Answer::Done(_) = scanned else {
+        return scanned;
+    };
+    digits_of(&values, digits);
+    Answer::Done(Itf14::DIGITS)
 }
 
-// The values of the seven pairs that widths begin with.
-pub fn pair_values(widths: &[u8], values: &mut [u8]) -> Answer
-    requires { ⌜ 70 ≤ length (now widths) ⌝ }
+// The values of the seven pairs.
+fn pair_values(widths: &[u8], values: &mut [u8]) -> Answer
     requires { ⌜ length (now values) ≡ 7 ⌝ }
-    ensures { λ r. ⌜ FillsOwn (characters pairs 10 7 0 (now (widths .entry))) (now (values .entry)) r (now (values .exit)) ⌝ }
+    ensures { λ r. ⌜ FillsOwn (between start stop pairs 10 7 (now (widths .entry))) (now (values .entry)) r (now (values .exit)) ⌝ }
 {
+    if widths.len() != Itf14::WIDTHS {
+        return Answer::Refused(Refusal::Count);
+    }
+    if !patterns::equal(&widths[..Itf14::PAIRS_AT], &Itf14::START) {
+        return Answer::Refused(Refusal::Guard);
+    }
+    if !patterns::equal(&widths[Itf14::STOP_AT..], &Itf14::STOP) {
+        return Answer::Refused(Refusal::Guard);
+    }
     let mut i = 0;
     while i < Itf14::PAIRS {
-        let at = Itf14::PAIR * i;
+        let at = Itf14::PAIRS_AT + Itf14::PAIR * i;
         let Match::Value(value) = pair_value(&widths[at..at + Itf14::PAIR]) else {
             return Answer::Refused(Refusal::Pattern(i));
         };
-        values[i] = value as u8;
+        values[i] = value;
         i += 1;
     }
     Answer::Done(i)
@@ -51,14 +57,13 @@ pub fn pair_values(widths: &[u8], values: &mut [u8]) -> Answer
 // The pair that ten widths draw. Only one can be: its digits are weighed out, and its widths compared.
 fn pair_value(widths: &[u8]) -> Match
     requires { ⌜ length (now widths) ≡ 10 ⌝ }
-    ensures { λ r. ⌜ r ≡ matchOf (valueIn pairs (now (widths .entry))) ⌝ }
+    ensures { λ r. ⌜ r ≡ matchIn pairs (now (widths .entry)) ⌝ }
 {
     let first = candidate(widths, 0);
     let second = candidate(widths, 1);
-    let bars = tables::DIGITS[first];
-    let spaces = tables::DIGITS[second];
-    if interleaves(bars, spaces, widths) {
-        Match::Value(10 * first + second)
+    let pattern = tables::pair(first, second);
+    if patterns::equal(&pattern, widths) {
+        Match::Value((10 * first + second) as u8)
     } else {
         Match::Nothing
     }
@@ -94,26 +99,8 @@ fn wide(width: u8) -> usize
     if width == Itf14::WIDE { 1 } else { 0 }
 }
 
-// Whether ten widths are these five in the bars and those in the spaces.
-fn interleaves(bars: [u8; 5], spaces: [u8; 5], widths: &[u8]) -> bool
-    requires { ⌜ length (now widths) ≡ 10 ⌝ }
-    ensures { λ r. ⌜ r ≡ same (interleaved bars spaces) (now (widths .entry)) ⌝ }
-{
-    let mut i = 0;
-    while i < 5 {
-        if widths[2 * i] != bars[i] {
-            return false;
-        }
-        if widths[2 * i + 1] != spaces[i] {
-            return false;
-        }
-        i += 1;
-    }
-    true
-}
-
 // The digits of the pairs, by value.
-pub fn digits_of(values: &[u8], digits: &mut [u8])
+fn digits_of(values: &[u8], digits: &mut [u8])
     requires { ⌜ length (now digits) ≡ 2 * length (now values) ⌝ }
     ensures { λ _. ⌜ now (digits .exit) ≡ unpaired (now (values .entry)) ⌝ }
 {

@@ -8,7 +8,8 @@ use native.Mathlib.Omega.{arith}
 use lib.ListN.{length, getD, set, take, drop, length-take, length-drop, length-set}
 use lib.Seq.{getD-take, getD-drop, getD-set-same, getD-set-other}
 use Rattle.laws.specs.Below.{Below}
-use Rattle.laws.proofs.Exchanged.{exchanged, exchanged-sets}
+use Rattle.laws.specs.Exchanged.{exchanged}
+use Rattle.laws.proofs.ExchangedLaws.{exchanged-sets}
 
 module _ (bound : ℕ) where
   pub below-of-nil : Below bound []

@@ -5,14 +5,10 @@ use mathlib.Core.Path.{_≡_, sym, ap, ap₂, _∙_}
 use mathlib.Core.List.{List, _++_, map, append-assoc, append-nil}
 use native.Mathlib.Numerals.{add-one}
 use native.Mathlib.Omega.{arith}
-use lib.ListN.{length, getD, set, take, drop, length-append, length-drop, length-map, drop-of-length-le, List·getD-map}
+use lib.ListN.{length, getD, set, take, drop, length-append, length-map, drop-of-length-le, List·getD-map}
 use lib.Seq.{length-take-le, take-all, take-at, take-suc, drop-cons, append-snoc, set-at}
 
 module _ {A : Type 0} (xs ys : List A) where
-  pub length-copied : (i : ℕ) → i ≤ length xs → i ≤ length ys → length (take i xs ++ drop i ys) ≡ length ys
-  length-copied i hx hy =
-      length-append (take i xs) (drop i ys) ∙ simp (length-take-le i xs hx, length-drop) (omega arith)
-
   pub copied-more : (i : ℕ) (d : A) → i < length xs → i < length ys → set (take i xs ++ drop i ys) i (getD xs i d) ≡ take (i + 1) xs ++ drop (i + 1) ys
   copied-more i d hx hy =
       rw (drop-cons ys i d hy, add-one, take-suc xs i d hx)

@@ -8,7 +8,8 @@ use native.Mathlib.Omega.{arith}
 use lib.ListN.{length, getD, set}
 use Rattle.laws.specs.First.{firstNot}
 use Rattle.laws.proofs.FirstLaws.{first-of-nil, all-pass, pass-append}
-use Rattle.laws.proofs.Exchanged.{exchanged, exchanged-sets}
+use Rattle.laws.specs.Exchanged.{exchanged}
+use Rattle.laws.proofs.ExchangedLaws.{exchanged-sets}
 
 module _ {A : Type 0} (passes : A → Bool) where
   -- all of a list passes: its first element does, and the rest

@@ -4,7 +4,7 @@
 --   BelowLaws      lists whose elements are all below a bound
 --   Booleans       tests joined by "and"
 --   Copying        a loop that copies, and a part that is lent on and written whole
---   Exchanged      two neighbours of a list exchanged
+--   ExchangedLaws  two neighbours of a list exchanged
 --   FirstChanged   a list whose every element passes a test, changed
 --   FirstLaws      the first element that fails a test
 --   Listed         the front of a list, written out
@@ -19,7 +19,7 @@ pub mod AmongLaws
 pub mod BelowLaws
 pub mod Booleans
 pub mod Copying
-pub mod Exchanged
+pub mod ExchangedLaws
 pub mod FirstChanged
 pub mod FirstLaws
 pub mod Listed

@@ -9,7 +9,8 @@ use native.Mathlib.Omega.{arith}
 use lib.ListN.{length, getD, set, drop, length-append, length-drop, length-set}
 use lib.Seq.{drop-cons, getD-set-other}
 use Rattle.laws.specs.Weighed.{weighed}
-use Rattle.laws.proofs.Exchanged.{exchanged, exchanged-sets}
+use Rattle.laws.specs.Exchanged.{exchanged}
+use Rattle.laws.proofs.ExchangedLaws.{exchanged-sets}
 
 module _ (weight : ℕ → ℕ) where
   pub weighed-of-nil : weighed weight [] ≡ 0

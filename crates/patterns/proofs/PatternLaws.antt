@@ -61,3 +61,7 @@ value-at patterns t v h = eqb→eq _ v (at-entry (λ (k : ℕ) (pattern : List �
 -- the value of widths that are known to be a pattern
 pub value-of : (patterns : List (List ℕ)) → T (distinct patterns) → (v : ℕ) (widths : List ℕ) → v < length patterns → getD patterns v [] ≡ widths → valueIn patterns widths ≡ v
 value-of patterns t v widths h e = ap (valueIn patterns) (sym e) ∙ value-at patterns t v h
+
+-- equal patterns have equal values
+pub one-value : (patterns : List (List ℕ)) → T (distinct patterns) → (u v : ℕ) → u < length patterns → v < length patterns → getD patterns u [] ≡ getD patterns v [] → u ≡ v
+one-value patterns t u v hu hv e = sym (value-at patterns t u hu) ∙ value-of patterns t v (getD patterns u []) hv (sym e)

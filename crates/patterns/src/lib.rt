@@ -2,6 +2,12 @@
 ghost use mathlib.Core.Path.{_≡_};
 ghost use Rattle.patterns.specs.Patterns.{same};
 
+// What widths are found to stand for: a value of a table of patterns, or none.
+pub enum Match {
+    Value(u8),
+    Nothing,
+}
+
 // Whether widths are those of a pattern.
 pub fn equal(widths: &[u8], pattern: &[u8]) -> bool
     ensures { λ r. ⌜ r ≡ same (now (widths .entry)) (now (pattern .entry)) ⌝ }

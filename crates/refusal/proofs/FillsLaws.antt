@@ -1,9 +1,9 @@
 -- What an answer says of the rule behind it, and how a refusal passes on: the answer tells a rule's two cases apart.
 use Prim.Native.Nat.{ℕ, _≤_, _<_}
 use mathlib.Core.Path.{_≡_, refl, sym, ap, _∙_, subst}
-use mathlib.Core.List.{List}
+use mathlib.Core.List.{List, _++_, append-nil}
 use native.Mathlib.Omega.{arith}
-use lib.ListN.{length, drop, length-append, length-drop}
+use lib.ListN.{length, drop, drop-of-length-le, length-append, length-drop}
 use lib.Dec.{leb}
 use borrow.Author.Tests.{le-leb, lt-leb, leb-true}
 use Rattle.refusal.specs.declared.Answer.{Answer}
@@ -11,7 +11,7 @@ use Rattle.refusal.specs.declared.Answer.the-variants.{Done, Refused}
 use Rattle.refusal.specs.declared.Refusal.{Refusal}
 use Rattle.refusal.specs.declared.Refusal.the-variants.{Room}
 use Rattle.refusal.specs.Outcome.{Outcome, made, refused}
-use Rattle.refusal.specs.Fills.{answered, answerOf, Fills, laying}
+use Rattle.refusal.specs.Fills.{answered, answerOf, laid, Fills, laying}
 use Rattle.refusal.proofs.OutcomeLaws.{must-made, made-same}
 
 -- an answer that is a number
@@ -46,6 +46,14 @@ module _ {A : Type 0} where
 
   pub laying-made : (xs : List A) (room : ℕ) → length xs ≤ room → laying xs room ≡ made xs
   laying-made xs room h = simp (le-leb (length xs) room h)
+
+  -- a list that is laid in as many places fills them all
+  pub laid-whole : (xs to after : List A) (r : Answer) → Fills (laying xs (length to)) to r after → length to ≡ length xs → after ≡ xs
+  laid-whole xs to after r fills e =
+      fills .lent
+      ∙ ap (λ (o : Outcome (List A)). laid o to) (laying-made xs (length to) (omega arith))
+      ∙ ap (λ (rest : List A). xs ++ rest) (drop-of-length-le to {i = length xs} (omega arith))
+      ∙ append-nil xs
 
   pub laying-refused : (xs : List A) (room : ℕ) → room < length xs → laying xs room ≡ refused Room
   laying-refused xs room h = simp (lt-leb (length xs) room h)

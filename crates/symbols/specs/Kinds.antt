@@ -1,7 +1,7 @@
 -- Document 01: "The reader of an unnamed list chooses the kind by count, and its reading names the kind; 43 is EAN-8 if the first width is 1,
 -- else GS1-128. A count of no kind is refusal 1." The counts are those of document 01's list of kinds.
 use Prim.Native.Nat.{ℕ}
-use mathlib.Core.Bool.{cond}
+use mathlib.Core.Bool.{Bool, cond}
 use mathlib.Core.List.{List}
 use lib.ListN.{length, getD}
 use lib.Dec.{eqb}
@@ -11,11 +11,18 @@ use Rattle.ean13.specs.Ean13.{reads as reads13}
 use Rattle.ean8.specs.Ean8.{reads as reads8}
 use Rattle.itf14.specs.Itf14.{reads as reads14}
 use Rattle.gs1_128.specs.Symbol.{permitted}
-use Rattle.gs1_128.specs.Calls as Gs1
+use Rattle.gs1_128.specs.Rules as Gs1
 use Rattle.symbols.specs.declared.Kind.{Kind}
 use Rattle.symbols.specs.declared.Kind.the-variants.{Ean13, Ean8, Itf14, Gs1128}
 use Rattle.symbols.specs.declared.Named.{Named}
 use Rattle.symbols.specs.declared.Named.the-variants.{As, Refused}
+
+-- whether a kind has symbols of so many widths
+abbrev pub hasCount : Kind → ℕ → Bool
+hasCount Ean13 count = eqb count 59
+hasCount Ean8 count = eqb count 43
+hasCount Itf14 count = eqb count 77
+hasCount Gs1128 count = permitted count
 
 -- the kind of a list of so many widths that begins with `first`
 abbrev pub kindBy : ℕ → ℕ → Outcome Kind

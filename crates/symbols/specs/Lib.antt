@@ -1,5 +1,6 @@
 -- The kinds of symbol, and a list of widths whose kind is not named.
 --
+--   hasCount           Kinds      whether a kind has symbols of so many widths
 --   kindBy, kindOf     Kinds      the kind of a list, by its count and its first width; or refusal 1
 --   readsAs            Kinds      the rule of a kind's own reader
 --   namedOf            Kinds      what the call that names the kind answers

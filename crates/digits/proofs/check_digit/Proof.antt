@@ -24,9 +24,6 @@ returns-2 : tie.Need-returns-2
 unfolding checkDigit
 returns-2 c = simp (le-leb _ _ (c .before .if1 .left), lt-leb _ _ (c .if2 .taken))
 
-first-other-requires : tie.Need-first-other-requires
-first-other-requires c κs = search needs
-
 -- as many as may be
 module _ (c : tie.Else2) where
   abbrev bytes : List ℕ
@@ -45,9 +42,6 @@ weighed-sum-requires c κs =
     let bytes = bytes (c .before .before) in
     (omega arith, all-digits bytes (omega (arith, c .before .first-other .ensures)))
 
-sub-t9 : tie.Need-sub-t9
-sub-t9 c = search needs
-
 returns-4 : tie.Need-returns-4
 unfolding checkDigit checkOf
 returns-4 c =
@@ -62,8 +56,8 @@ check-digit-spec =
     (tie.spec
     returns
     returns-2
-    first-other-requires
+    (λ c κs. search needs)
     returns-3
     weighed-sum-requires
-    sub-t9
+    (λ c. search needs)
     returns-4)

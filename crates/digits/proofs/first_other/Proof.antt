@@ -23,9 +23,6 @@ abbrev μ-loop : tie.MeasureT-loop
 loop-holds : tie.Need-loop-holds Inv-loop μ-loop
 loop-holds c = (omega arith, omega arith)
 
-shared-slice-read-is-digit : tie.Need-shared-slice-read-is-digit Inv-loop μ-loop
-shared-slice-read-is-digit c = omega arith
-
 is-digit-requires : tie.Need-is-digit-requires Inv-loop μ-loop
 is-digit-requires c κs = tt
 
@@ -46,12 +43,6 @@ returns c =
     let i = at .loop .i in
     let other : isDigit (getD bytes i 0) ≡ false = sym (c .before .is-digit .ensures) ∙ not-true _ (c .if1 .taken) in
     omega (arith, first-stops isDigit bytes i 0 (omega arith) other)
-
-add-i : tie.Need-add-i Inv-loop μ-loop
-add-i c = omega arith
-
-loop-less : tie.Need-loop-less Inv-loop μ-loop
-loop-less c = omega arith
 
 loop-again : tie.Need-loop-again Inv-loop μ-loop
 loop-again c =
@@ -75,10 +66,10 @@ first-other-spec =
     Inv-loop
     μ-loop
     loop-holds
-    shared-slice-read-is-digit
+    (λ c. omega arith)
     is-digit-requires
     returns
-    add-i
-    loop-less
+    (λ c. omega arith)
+    (λ c. omega arith)
     loop-again
     returns-2)

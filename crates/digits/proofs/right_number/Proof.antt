@@ -30,9 +30,6 @@ returns : tie.Need-returns
 unfolding rightNumber
 returns c = simp (ne-eqb _ _ (c .if1 .taken))
 
-first-other-requires : tie.Need-first-other-requires
-first-other-requires c κs = search needs
-
 -- what the call was lent
 module _ (c : tie.After-first-other) where
   abbrev lent : tie.Start
@@ -60,19 +57,10 @@ module _ (c : tie.Else2) where
   all : firstNot isDigit number ≡ length number
   all = all-digits number (omega (arith, c .before .first-other .ensures))
 
-sub-last : tie.Need-sub-last
-sub-last c = search needs
-
-slice-aggregate-weighed-sum : tie.Need-slice-aggregate-weighed-sum
-slice-aggregate-weighed-sum c = simp length-take (omega arith)
-
 weighed-sum-requires : tie.Need-weighed-sum-requires
 weighed-sum-requires c κs =
     let at = c .before in
     (simp length-take (omega arith), pass-take isDigit (n at - 1) (number at) 0 (all at))
-
-shared-slice-read-value-of : tie.Need-shared-slice-read-value-of
-shared-slice-read-value-of c = search needs
 
 -- the digits before the last have been weighed
 module _ (c : tie.After-shared-slice-known2) where
@@ -119,12 +107,12 @@ right-number-spec =
     tie.close
     (tie.spec
     returns
-    first-other-requires
+    (λ c κs. search needs)
     returns-2
-    sub-last
-    slice-aggregate-weighed-sum
+    (λ c. search needs)
+    (λ c. simp length-take (omega arith))
     weighed-sum-requires
-    shared-slice-read-value-of
+    (λ c. search needs)
     value-of-requires
     add-sum
     returns-3

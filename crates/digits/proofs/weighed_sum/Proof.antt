@@ -39,12 +39,6 @@ loop-holds c =
       omega arith,
     )
 
-sub-i : tie.Need-sub-i Inv-loop μ-loop
-sub-i c = omega arith
-
-shared-slice-read-value-of : tie.Need-shared-slice-read-value-of Inv-loop μ-loop
-shared-slice-read-value-of c = omega arith
-
 -- what the call was lent
 module _ (c : tie.At-loop Inv-loop μ-loop) where
   abbrev lent : tie.Start Inv-loop μ-loop
@@ -77,9 +71,6 @@ add-sum c = omega (arith, adds-most c, lent (turn c) .pre .0)
 sub-weight : tie.Need-sub-weight Inv-loop μ-loop
 sub-weight c = omega (arith, weight-most (length (digits (turn c)) - turn c .loop .i))
 
-loop-less : tie.Need-loop-less Inv-loop μ-loop
-loop-less c = omega arith
-
 loop-again : tie.Need-loop-again Inv-loop μ-loop
 loop-again c =
     let digits = digits (turn c) in
@@ -106,12 +97,12 @@ weighed-sum-spec =
     Inv-loop
     μ-loop
     loop-holds
-    sub-i
-    shared-slice-read-value-of
+    (λ c. omega arith)
+    (λ c. omega arith)
     value-of-requires
     mul-sum
     add-sum
     sub-weight
-    loop-less
+    (λ c. omega arith)
     loop-again
     returns)

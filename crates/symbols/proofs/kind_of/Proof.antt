@@ -10,9 +10,6 @@ returns : tie.Need-returns
 unfolding kindOf
 returns c = simp (eq-eqb _ _ (c .if1 .taken))
 
-shared-slice-read-if3 : tie.Need-shared-slice-read-if3
-shared-slice-read-if3 c = search needs
-
 returns-2 : tie.Need-returns-2
 unfolding kindOf
 returns-2 c = simp (ne-eqb _ _ (c .before .before .before .if1 .left), eq-eqb _ _ (c .before .before .if2 .taken), eq-eqb _ _ (c .if3 .taken))
@@ -24,9 +21,6 @@ returns-3 c = simp (ne-eqb _ _ (c .before .before .before .if1 .left), eq-eqb _ 
 returns-4 : tie.Need-returns-4
 unfolding kindOf
 returns-4 c = simp (ne-eqb _ _ (c .before .before .if1 .left), ne-eqb _ _ (c .before .if2 .left), eq-eqb _ _ (c .if4 .taken))
-
-permits-requires : tie.Need-permits-requires
-permits-requires c κs = search needs
 
 returns-5 : tie.Need-returns-5
 unfolding kindOf
@@ -45,10 +39,10 @@ kind-of-spec =
     tie.close
     (tie.spec
     returns
-    shared-slice-read-if3
+    (λ c. search needs)
     returns-2
     returns-3
     returns-4
-    permits-requires
+    (λ c κs. search needs)
     returns-5
     returns-6)

@@ -14,24 +14,12 @@ use Rattle.symbols.proofs.ReadingLaws.{made-of-named, refused-of-named,
 use Rattle.symbols.proofs.read.Statement.{statement}
 use Rattle.symbols.proofs.read.Tie as tie
 
-kind-of-requires : tie.Need-kind-of-requires
-kind-of-requires c κs = search needs
-
-enum-known-named : tie.Need-enum-known-named
-enum-known-named c = search needs
-
-enum-known-named-2 : tie.Need-enum-known-named-2
-enum-known-named-2 c = search needs
-
 returns : tie.Need-returns
 returns c =
     let at = c .before .before .before in
     let args = at .before .before .before .args in
     let f = c .before .named2 .given .0 .0 in
     named-refused (args .widths .now) (length (args .bytes .now)) (args .bytes .now) f (refused-of-named _ f (sym (c .before .named2 .given .1) ∙ at .kind-of .ensures))
-
-read-as-requires : tie.Need-read-as-requires
-read-as-requires c κs = search needs
 
 -- where the list was named and read
 module _ (c : tie.After-read-as) where
@@ -53,22 +41,10 @@ module _ (c : tie.After-read-as) where
   reading : FillsNamed (reads widths (length before)) before (readingAs kind (c .read-as .result)) (c .read-as .last .1 .1 .0)
   reading = named-read widths (length before) before kind named (c .read-as .result) (c .read-as .last .1 .1 .0) (c .read-as .ensures)
 
-enum-known-answer : tie.Need-enum-known-answer
-enum-known-answer c = search needs
-
-enum-known-answer-2 : tie.Need-enum-known-answer-2
-enum-known-answer-2 c = search needs
-
-same-length : tie.Need-same-length
-same-length c = search needs
-
 returns-2 : tie.Need-returns-2
 returns-2 c =
     let at = c .before .before .before .before .before in
     subst (λ (r : Reading). FillsNamed (reads (widths at) (length (before at))) (before at) r (at .read-as .last .1 .1 .0)) (ap (readingAs (kind at)) (c .before .answer .given .1)) (reading at)
-
-same-length-2 : tie.Need-same-length-2
-same-length-2 c = search needs
 
 returns-3 : tie.Need-returns-3
 returns-3 c =
@@ -79,14 +55,14 @@ pub read-spec : {M : Type 1} → statement M
 read-spec =
     tie.close
     (tie.spec
-    kind-of-requires
-    enum-known-named
-    enum-known-named-2
+    (λ c κs. search needs)
+    (λ c. search needs)
+    (λ c. search needs)
     returns
-    read-as-requires
-    enum-known-answer
-    enum-known-answer-2
-    same-length
+    (λ c κs. search needs)
+    (λ c. search needs)
+    (λ c. search needs)
+    (λ c. search needs)
     returns-2
-    same-length-2
+    (λ c. search needs)
     returns-3)

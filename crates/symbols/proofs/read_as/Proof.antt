@@ -15,53 +15,17 @@ use Rattle.symbols.proofs.read_as.Tie as tie
 for-kind : (kind k : Kind) (widths : List ℕ) (room : ℕ) (before : List ℕ) (r : Answer) (after : List ℕ) → kind ≡ k → Fills (readsAs k widths room) before r after → Fills (readsAs kind widths room) before r after
 for-kind kind k widths room before r after is = fills-same _ _ before r after (ap (λ (which : Kind). readsAs which widths room) is)
 
-enum-told : tie.Need-enum-told
-enum-told c = search needs
-
-read-requires : tie.Need-read-requires
-read-requires c κs = search needs
-
-enum-told-2 : tie.Need-enum-told-2
-enum-told-2 c = search needs
-
-read-requires-2 : tie.Need-read-requires-2
-read-requires-2 c κs = search needs
-
-enum-told-3 : tie.Need-enum-told-3
-enum-told-3 c = search needs
-
-read-requires-3 : tie.Need-read-requires-3
-read-requires-3 c κs = search needs
-
-enum-told-4 : tie.Need-enum-told-4
-enum-told-4 c = search needs
-
-read-requires-4 : tie.Need-read-requires-4
-read-requires-4 c κs = search needs
-
-same-length : tie.Need-same-length
-same-length c = search needs
-
 returns : tie.Need-returns
 unfolding readsAs
 returns c = for-kind _ Ean13 _ _ _ _ _ (c .before .before .before .before .enum-told .given .1) (c .before .before .read .ensures)
-
-same-length-2 : tie.Need-same-length-2
-same-length-2 c = search needs
 
 returns-2 : tie.Need-returns-2
 unfolding readsAs
 returns-2 c = for-kind _ Ean8 _ _ _ _ _ (c .before .before .before .before .enum-told2 .given .1) (c .before .before .read2 .ensures)
 
-same-length-3 : tie.Need-same-length-3
-same-length-3 c = search needs
-
 returns-3 : tie.Need-returns-3
 unfolding readsAs
 returns-3 c = for-kind _ Itf14 _ _ _ _ _ (c .before .before .before .before .enum-told3 .given .1) (c .before .before .read3 .ensures)
-
-same-length-4 : tie.Need-same-length-4
-same-length-4 c = search needs
 
 returns-4 : tie.Need-returns-4
 unfolding readsAs
@@ -71,19 +35,19 @@ pub read-as-spec : {M : Type 1} → statement M
 read-as-spec =
     tie.close
     (tie.spec
-    enum-told
-    read-requires
-    enum-told-2
-    read-requires-2
-    enum-told-3
-    read-requires-3
-    enum-told-4
-    read-requires-4
-    same-length
+    (λ c. search needs)
+    (λ c κs. search needs)
+    (λ c. search needs)
+    (λ c κs. search needs)
+    (λ c. search needs)
+    (λ c κs. search needs)
+    (λ c. search needs)
+    (λ c κs. search needs)
+    (λ c. search needs)
     returns
-    same-length-2
+    (λ c. search needs)
     returns-2
-    same-length-3
+    (λ c. search needs)
     returns-3
-    same-length-4
+    (λ c. search needs)
     returns-4)

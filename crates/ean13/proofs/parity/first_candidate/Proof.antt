@@ -8,67 +8,10 @@ use lib.Dec.{ltb, ltb→lt}
 use Rattle.laws.proofs.Tables.{every, at-entry}
 use Rattle.patterns.proofs.CharacterLaws.{length-at}
 use Rattle.ean13.specs.Parity.{parityRows}
-use Rattle.ean_upc.proofs.Candidates.{one-candidate}
+use Rattle.patterns.proofs.MatchLaws.{one-candidate}
 use borrow.Author.Needs.{needs}
 use Rattle.ean13.proofs.parity.first_candidate.Statement.{statement}
 use Rattle.ean13.proofs.parity.first_candidate.Tie as tie
-
-array-read-first-three : tie.Need-array-read-first-three
-array-read-first-three c = search needs
-
-mul-first-three : tie.Need-mul-first-three
-mul-first-three c = search needs
-
-array-read-first-three-2 : tie.Need-array-read-first-three-2
-array-read-first-three-2 c = search needs
-
-mul-first-three-2 : tie.Need-mul-first-three-2
-mul-first-three-2 c = search needs
-
-add-first-three : tie.Need-add-first-three
-add-first-three c = search needs
-
-array-read-first-three-3 : tie.Need-array-read-first-three-3
-array-read-first-three-3 c = search needs
-
-add-first-three-2 : tie.Need-add-first-three-2
-add-first-three-2 c = search needs
-
-array-read-last-three : tie.Need-array-read-last-three
-array-read-last-three c = search needs
-
-mul-last-three : tie.Need-mul-last-three
-mul-last-three c = search needs
-
-array-read-last-three-2 : tie.Need-array-read-last-three-2
-array-read-last-three-2 c = search needs
-
-mul-last-three-2 : tie.Need-mul-last-three-2
-mul-last-three-2 c = search needs
-
-add-last-three : tie.Need-add-last-three
-add-last-three c = search needs
-
-array-read-last-three-3 : tie.Need-array-read-last-three-3
-array-read-last-three-3 c = search needs
-
-add-last-three-2 : tie.Need-add-last-three-2
-add-last-three-2 c = search needs
-
-cast-row : tie.Need-cast-row
-cast-row c = search needs
-
-mul-row : tie.Need-mul-row
-mul-row c = search needs
-
-array-copy-out-row : tie.Need-array-copy-out-row
-array-copy-out-row c = search needs
-
-cast-result : tie.Need-cast-result
-cast-result c = search needs
-
-array-read-result : tie.Need-array-read-result
-array-read-result c = search needs
 
 firsts : List (List ℕ)
 firsts =
@@ -111,23 +54,23 @@ pub first-candidate-spec : {M : Type 1} → statement M
 first-candidate-spec =
     tie.close
     (tie.spec
-    array-read-first-three
-    mul-first-three
-    array-read-first-three-2
-    mul-first-three-2
-    add-first-three
-    array-read-first-three-3
-    add-first-three-2
-    array-read-last-three
-    mul-last-three
-    array-read-last-three-2
-    mul-last-three-2
-    add-last-three
-    array-read-last-three-3
-    add-last-three-2
-    cast-row
-    mul-row
-    array-copy-out-row
-    cast-result
-    array-read-result
+    (λ c. search needs)
+    (λ c. search needs)
+    (λ c. search needs)
+    (λ c. search needs)
+    (λ c. search needs)
+    (λ c. search needs)
+    (λ c. search needs)
+    (λ c. search needs)
+    (λ c. search needs)
+    (λ c. search needs)
+    (λ c. search needs)
+    (λ c. search needs)
+    (λ c. search needs)
+    (λ c. search needs)
+    (λ c. search needs)
+    (λ c. search needs)
+    (λ c. search needs)
+    (λ c. search needs)
+    (λ c. search needs)
     returns)

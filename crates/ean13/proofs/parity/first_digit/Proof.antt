@@ -5,33 +5,12 @@ use mathlib.Core.List.{List, []}
 use lib.ListN.{getD}
 use Rattle.patterns.proofs.PatternLaws.{same-true, same-false}
 use Rattle.ean13.specs.Parity.{parityRows}
-use Rattle.ean_upc.specs.Halves.{matchIn}
+use Rattle.patterns.specs.Matching.{matchIn}
 use Rattle.ean13.proofs.ParityLaws.{distinct-rows}
-use Rattle.ean_upc.proofs.Candidates.{match-found, match-none}
+use Rattle.patterns.proofs.MatchLaws.{match-found, match-none}
 use borrow.Author.Needs.{needs}
 use Rattle.ean13.proofs.parity.first_digit.Statement.{statement}
 use Rattle.ean13.proofs.parity.first_digit.Tie as tie
-
-letters-of-requires : tie.Need-letters-of-requires
-letters-of-requires c κs = search needs
-
-first-candidate-requires : tie.Need-first-candidate-requires
-first-candidate-requires c κs = search needs
-
-cast-parity-row : tie.Need-cast-parity-row
-cast-parity-row c = search needs
-
-parity-row-requires : tie.Need-parity-row-requires
-parity-row-requires c κs = search needs
-
-slice-aggregate-equal : tie.Need-slice-aggregate-equal
-slice-aggregate-equal c = search needs
-
-slice-aggregate-equal-2 : tie.Need-slice-aggregate-equal-2
-slice-aggregate-equal-2 c = search needs
-
-equal-requires : tie.Need-equal-requires
-equal-requires c κs = search needs
 
 -- where the row of the one digit that the letters can have was compared with them
 module _ (c : tie.After-equal) where
@@ -65,12 +44,12 @@ pub first-digit-spec : {M : Type 1} → statement M
 first-digit-spec =
     tie.close
     (tie.spec
-    letters-of-requires
-    first-candidate-requires
-    cast-parity-row
-    parity-row-requires
-    slice-aggregate-equal
-    slice-aggregate-equal-2
-    equal-requires
+    (λ c κs. search needs)
+    (λ c κs. search needs)
+    (λ c. search needs)
+    (λ c κs. search needs)
+    (λ c. search needs)
+    (λ c. search needs)
+    (λ c κs. search needs)
     returns
     returns-2)

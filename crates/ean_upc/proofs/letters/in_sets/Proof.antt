@@ -3,6 +3,7 @@ use Prim.Native.Nat.{_-_, _≤_}
 use mathlib.Core.Path.{_≡_, refl, _∙_}
 use mathlib.Core.List.{_++_}
 use native.Mathlib.Omega.{arith}
+use borrow.Author.Needs.{needs}
 use lib.ListN.{length, take, drop}
 use Rattle.laws.proofs.Copying.{copied-more, copied-whole}
 use Rattle.ean_upc.specs.Letters.{inSets}
@@ -17,54 +18,39 @@ Inv-loop digits letters values₀ i₀ values i =
 abbrev μ-loop : tie.MeasureT-loop
 μ-loop digits letters values₀ i₀ values i = 6 - i
 
-loop-holds : tie.Need-loop-holds Inv-loop μ-loop
-loop-holds c = (omega arith, refl, refl)
+-- a turn, from where its letter and digit are known
+module _ (c : tie.After-shared-slice-known Inv-loop μ-loop) where
+  abbrev turn : tie.At-loop Inv-loop μ-loop
+  turn = c .before .before
 
-array-read-in-set : tie.Need-array-read-in-set Inv-loop μ-loop
-array-read-in-set c = omega arith
+  abbrev start : tie.Start Inv-loop μ-loop
+  start = turn .before
 
-shared-slice-read-in-set : tie.Need-shared-slice-read-in-set Inv-loop μ-loop
-shared-slice-read-in-set c = omega arith
+mul-values : tie.Need-mul-values Inv-loop μ-loop
+mul-values c = omega (arith, c .before .before .pre .0 (c .before .loop .i) (omega arith))
 
-in-set-requires : tie.Need-in-set-requires Inv-loop μ-loop
-in-set-requires c κs =
-    let turn = c .before .before in
-    let start = turn .before .before in
-    let i = turn .loop .i in
-    (omega (arith, start .pre .0 i (omega arith)), start .pre .1 .1 i (omega arith))
+add-values : tie.Need-add-values Inv-loop μ-loop
+add-values c = omega (arith, start c .pre .0 (turn c .loop .i) (omega arith), start c .pre .1 .1 (turn c .loop .i) (omega arith))
 
-array-write-values : tie.Need-array-write-values Inv-loop μ-loop
-array-write-values c = omega arith
-
-add-i : tie.Need-add-i Inv-loop μ-loop
-add-i c = omega arith
-
-loop-less : tie.Need-loop-less Inv-loop μ-loop
-loop-less c = omega arith
+-- as many values as letters and digits
+six : (c : tie.Start Inv-loop μ-loop) → length (inSets (c .args .t1) (c .args .digits .now)) ≡ 6
+six c = length-in-sets (c .args .t1) (c .args .digits .now) (omega arith) ∙ c .pre .1 .0
 
 loop-again : tie.Need-loop-again Inv-loop μ-loop
 loop-again c =
-    let at = c .before .before .before in
-    let start = at .before .before in
-    let letters = start .args .t1 in
-    let digits = start .args .digits .now in
-    let i = at .loop .i in
-    let values : length (inSets letters digits) ≡ 6 = length-in-sets letters digits (omega arith) ∙ start .pre .1 .0 in (
+    let letters = start c .args .t1 in
+    let digits = start c .args .digits .now in
+    let loop = turn c .loop in (
       omega arith,
       refl,
-      rw (at .loop .inv .2, c .in-set .ensures, ← in-sets-at letters digits i (omega arith) (omega arith))
-          (copied-more (inSets letters digits) _ i 0 (omega arith) (omega arith)),
+      rw (loop .inv .2, ← in-sets-at letters digits (loop .i) (omega arith) (omega arith))
+          (copied-more (inSets letters digits) _ (loop .i) 0 (omega (arith, six (start c))) (omega arith)),
     )
 
 returns : tie.Need-returns Inv-loop μ-loop
 returns c =
-    let at = c .before in
-    let start = at .before .before in
-    let letters = start .args .t1 in
-    let digits = start .args .digits .now in
-    let values : length (inSets letters digits) ≡ 6 = length-in-sets letters digits (omega arith) ∙ start .pre .1 .0 in
-    at .loop .inv .2
-    ∙ copied-whole (inSets letters digits) _ (at .loop .i) (omega arith) (omega arith)
+    let loop = c .before .loop in
+    loop .inv .2 ∙ copied-whole _ _ (loop .i) (omega (arith, six (c .before .before))) (omega arith)
 
 pub in-sets-spec : {M : Type 1} → statement M
 in-sets-spec =
@@ -72,12 +58,13 @@ in-sets-spec =
     (tie.spec
     Inv-loop
     μ-loop
-    loop-holds
-    array-read-in-set
-    shared-slice-read-in-set
-    in-set-requires
-    array-write-values
-    add-i
-    loop-less
+    (λ c. (omega arith, refl, refl))
+    (λ c. search needs)
+    mul-values
+    (λ c. search needs)
+    add-values
+    (λ c. search needs)
+    (λ c. search needs)
+    (λ c. search needs)
     loop-again
     returns)

@@ -10,31 +10,16 @@ use borrow.Author.Needs.{needs}
 use Rattle.ean_upc.proofs.tables.pattern.Statement.{statement}
 use Rattle.ean_upc.proofs.tables.pattern.Tie as tie
 
-enum-told : tie.Need-enum-told
-enum-told c = search needs
-
 set-a-requires : tie.Need-set-a-requires
 set-a-requires c κs = rw (c .enum-told .given .1) at (c .before .before .pre)
-
-enum-told-2 : tie.Need-enum-told-2
-enum-told-2 c = search needs
-
-set-a-requires-2 : tie.Need-set-a-requires-2
-set-a-requires-2 c κs = search needs
 
 set-b-requires : tie.Need-set-b-requires
 set-b-requires c κs =
     let within : c .before .before .before .args .value < 20 = rw (c .before .enum-told2 .given .1) at (c .before .before .before .pre) in
     omega arith
 
-enum-told-3 : tie.Need-enum-told-3
-enum-told-3 c = search needs
-
 set-a-requires-3 : tie.Need-set-a-requires-3
 set-a-requires-3 c κs = rw (c .enum-told3 .given .1) at (c .before .before .pre)
-
-returns : tie.Need-returns
-returns c = search needs
 
 returns-2 : tie.Need-returns-2
 returns-2 c =
@@ -50,21 +35,18 @@ returns-3 c =
     rw (told .enum-told2 .given .1)
     (c .set-b .ensures ∙ sym (getD-append-add setA setB (value - 10) []) ∙ ap (λ (v : ℕ). getD (setA ++ setB) v []) back)
 
-returns-4 : tie.Need-returns-4
-returns-4 c = search needs
-
 pub pattern-spec : {M : Type 1} → statement M
 pattern-spec =
     tie.close
     (tie.spec
-    enum-told
+    (λ c. search needs)
     set-a-requires
-    enum-told-2
-    set-a-requires-2
+    (λ c. search needs)
+    (λ c κs. search needs)
     set-b-requires
-    enum-told-3
+    (λ c. search needs)
     set-a-requires-3
-    returns
+    (λ c. search needs)
     returns-2
     returns-3
-    returns-4)
+    (λ c. search needs))

@@ -2,12 +2,9 @@
 use native.Mathlib.Omega.{arith}
 use borrow.Author.Needs.{needs}
 use borrow.Author.Tests.{lt-ltb, le-ltb}
-use Rattle.itf14.specs.Matching.{candidateAt}
+use Rattle.itf14.specs.Candidates.{candidateAt}
 use Rattle.itf14.proofs.scanning.candidate.Statement.{statement}
 use Rattle.itf14.proofs.scanning.candidate.Tie as tie
-
-weight-requires : tie.Need-weight-requires
-weight-requires c κs = search needs
 
 returns : tie.Need-returns
 unfolding candidateAt
@@ -18,4 +15,4 @@ unfolding candidateAt
 returns-2 c = (rw (← c .before .weight .ensures, le-ltb _ 10 (c .if1 .left)), omega arith)
 
 pub candidate-spec : {M : Type 1} → statement M
-candidate-spec = tie.close (tie.spec weight-requires returns returns-2)
+candidate-spec = tie.close (tie.spec (λ c κs. search needs) returns returns-2)

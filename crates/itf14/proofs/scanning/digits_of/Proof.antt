@@ -20,33 +20,6 @@ abbrev μ-loop : tie.MeasureT-loop
 loop-holds : tie.Need-loop-holds Inv-loop μ-loop
 loop-holds c = (omega arith, omega arith, refl)
 
-shared-slice-read-digits : tie.Need-shared-slice-read-digits Inv-loop μ-loop
-shared-slice-read-digits c = omega arith
-
-mul-digits : tie.Need-mul-digits Inv-loop μ-loop
-mul-digits c = omega arith
-
-slice-write-digits : tie.Need-slice-write-digits Inv-loop μ-loop
-slice-write-digits c = omega arith
-
-shared-slice-read-digits-2 : tie.Need-shared-slice-read-digits-2 Inv-loop μ-loop
-shared-slice-read-digits-2 c = omega arith
-
-mul-digits-2 : tie.Need-mul-digits-2 Inv-loop μ-loop
-mul-digits-2 c = omega arith
-
-add-digits : tie.Need-add-digits Inv-loop μ-loop
-add-digits c = omega arith
-
-slice-write-digits-2 : tie.Need-slice-write-digits-2 Inv-loop μ-loop
-slice-write-digits-2 c = simp length-set (omega arith)
-
-add-i : tie.Need-add-i Inv-loop μ-loop
-add-i c = omega arith
-
-loop-less : tie.Need-loop-less Inv-loop μ-loop
-loop-less c = omega arith
-
 loop-again : tie.Need-loop-again Inv-loop μ-loop
 loop-again c =
     let turn = c .before .before .before in
@@ -59,9 +32,6 @@ loop-again c =
       rw (loop .inv .2, ← unpaired-first values (loop .i), ← unpaired-second values (loop .i))
           (copied-two (unpaired values) (start .args .digits .now) (loop .i) (omega arith) (omega arith)),
     )
-
-same-length : tie.Need-same-length Inv-loop μ-loop
-same-length c = omega arith
 
 returns : tie.Need-returns Inv-loop μ-loop
 returns c =
@@ -78,15 +48,15 @@ digits-of-spec =
     Inv-loop
     μ-loop
     loop-holds
-    shared-slice-read-digits
-    mul-digits
-    slice-write-digits
-    shared-slice-read-digits-2
-    mul-digits-2
-    add-digits
-    slice-write-digits-2
-    add-i
-    loop-less
+    (λ c. omega arith)
+    (λ c. omega arith)
+    (λ c. omega arith)
+    (λ c. omega arith)
+    (λ c. omega arith)
+    (λ c. omega arith)
+    (λ c. simp length-set (omega arith))
+    (λ c. omega arith)
+    (λ c. omega arith)
     loop-again
-    same-length
+    (λ c. omega arith)
     returns)

@@ -1,81 +1,60 @@
--- `itf14::pair_value` meets its contract: the digits that the widths weigh are the only ones that the widths can draw, and the comparison tells
--- whether they do.
+-- `itf14::scanning::pair_value` meets its contract: the digits that the widths weigh are the only ones that the widths can draw, and the
+-- comparison tells whether they do.
 use Prim.Native.Nat.{ℕ, _+_, _*_}
-use mathlib.Core.Path.{sym, _∙_}
+use mathlib.Core.Path.{sym, ap₂, _∙_, subst}
 use mathlib.Core.List.{List}
 use native.Mathlib.Omega.{arith}
 use borrow.Author.Needs.{needs}
-use Rattle.patterns.specs.Patterns.{valueIn}
+use Rattle.patterns.specs.Matching.{Candidate}
+use Rattle.patterns.proofs.PatternLaws.{same-true, same-false}
+use Rattle.patterns.proofs.MatchLaws.{match-found, match-none}
 use Rattle.itf14.specs.Tables.{pairs}
-use Rattle.itf14.proofs.PairLaws.{length-pairs}
-use Rattle.itf14.proofs.MatchLaws.{value-found, value-missing, match-some, match-none}
+use Rattle.itf14.proofs.PairLaws.{length-pairs, distinct-pairs, one-pair}
 use Rattle.itf14.proofs.scanning.pair_value.Statement.{statement}
 use Rattle.itf14.proofs.scanning.pair_value.Tie as tie
 
-candidate-requires : tie.Need-candidate-requires
-candidate-requires c κs = search needs
+-- where the pair that the widths can have was compared with them
+module _ (c : tie.After-equal) where
+  abbrev pattern : tie.After-pair
+  pattern = c .before .before
 
-candidate-requires-2 : tie.Need-candidate-requires-2
-candidate-requires-2 c κs = search needs
-
-mul-bars : tie.Need-mul-bars
-mul-bars c = search needs
-
-array-copy-out-bars : tie.Need-array-copy-out-bars
-array-copy-out-bars c = search needs
-
-mul-spaces : tie.Need-mul-spaces
-mul-spaces c = search needs
-
-array-copy-out-spaces : tie.Need-array-copy-out-spaces
-array-copy-out-spaces c = search needs
-
-interleaves-requires : tie.Need-interleaves-requires
-interleaves-requires c κs = search needs
-
-mul-t26 : tie.Need-mul-t26
-mul-t26 c = search needs
-
-add-t27 : tie.Need-add-t27
-add-t27 c = search needs
-
--- where the digits that the widths can have are known, and compared
-module _ (c : tie.After-interleaves) where
   abbrev second : tie.After-candidate2
-  second = c .before .before .before
+  second = pattern .before
 
   abbrev widths : List ℕ
   widths = second .before .before .before .args .widths .now
 
+  abbrev value : ℕ
+  value = 10 * second .before .candidate .result + second .candidate2 .result
+
+  only : Candidate pairs widths value
+  only =
+      subst (Candidate pairs widths)
+      (sym (ap₂ (λ (a b : ℕ). 10 * a + b) (second .before .candidate .ensures .0) (second .candidate2 .ensures .0))) (one-pair widths)
+
 returns : tie.Need-returns
 returns c =
-    let at = second (c .before) in
-    let a = at .before .candidate in
-    let b = at .candidate2 in
-    match-some (10 * a .result + b .result) (valueIn pairs (widths (c .before)))
-    (value-found (widths (c .before)) (a .result) (b .result) (a .ensures .0) (b .ensures .0) (a .ensures .1) (b .ensures .1) (sym (c .before .interleaves .ensures) ∙ c .if1 .taken))
-    (rw length-pairs (omega arith))
+    let at = c .before in
+    match-found pairs (widths at) (value at) distinct-pairs (rw length-pairs (omega arith))
+    (sym (pattern at .pair .ensures) ∙ same-true _ (widths at) (sym (at .equal .ensures) ∙ c .if1 .taken))
 
 returns-2 : tie.Need-returns-2
 returns-2 c =
-    let at = second (c .before) in
-    let a = at .before .candidate in
-    let b = at .candidate2 in
-    match-none (valueIn pairs (widths (c .before)))
-    (value-missing (widths (c .before)) (a .result) (b .result) (a .ensures .0) (b .ensures .0) (a .ensures .1) (b .ensures .1) (sym (c .before .interleaves .ensures) ∙ c .if1 .left))
+    let at = c .before in
+    match-none pairs (widths at) (value at) (only at)
+    (λ h is. same-false _ (widths at) (sym (at .equal .ensures) ∙ c .if1 .left) (pattern at .pair .ensures ∙ is))
 
 pub pair-value-spec : {M : Type 1} → statement M
 pair-value-spec =
     tie.close
     (tie.spec
-    candidate-requires
-    candidate-requires-2
-    mul-bars
-    array-copy-out-bars
-    mul-spaces
-    array-copy-out-spaces
-    interleaves-requires
-    mul-t26
-    add-t27
+    (λ c κs. search needs)
+    (λ c κs. search needs)
+    (λ c κs. search needs)
+    (λ c. search needs)
+    (λ c κs. search needs)
+    (λ c. search needs)
+    (λ c. search needs)
+    (λ c. search needs)
     returns
     returns-2)

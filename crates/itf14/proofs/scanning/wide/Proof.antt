@@ -1,7 +1,7 @@
 -- `itf14::wide` meets its contract: each `return` has the test of the definition behind it.
 use native.Mathlib.Omega.{arith}
 use borrow.Author.Tests.{eq-eqb, ne-eqb}
-use Rattle.itf14.specs.Matching.{wideOf}
+use Rattle.itf14.specs.Candidates.{wideOf}
 use Rattle.itf14.proofs.scanning.wide.Statement.{statement}
 use Rattle.itf14.proofs.scanning.wide.Tie as tie
 

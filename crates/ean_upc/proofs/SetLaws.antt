@@ -1,0 +1,40 @@
+-- The patterns of a half: in every set no two are equal and each has four widths, by computed tests; and the one value that widths can have in
+-- sets A and B is the only one that they can have in either.
+use Prim.Native.Nat.{ℕ, _*_, _<_}
+use mathlib.Core.Path.{_≡_, _∙_}
+use mathlib.Core.List.{List, [], _++_}
+use native.Mathlib.Omega.{arith}
+use lib.ListN.{length, getD, List·getD-append}
+use lib.Dec.{T}
+use Rattle.laws.specs.Below.{Below}
+use Rattle.laws.specs.First.{firstNot}
+use Rattle.patterns.specs.Patterns.{same, valueIn, drawn}
+use Rattle.patterns.specs.Matching.{Candidate}
+use Rattle.patterns.proofs.PatternLaws.{distinct}
+use Rattle.patterns.proofs.CharacterLaws.{sized, length-at, length-of-drawn}
+use Rattle.ean_upc.specs.declared.tables.Sets.{Sets}
+use Rattle.ean_upc.specs.declared.tables.Sets.the-variants.{A, AOrB, C}
+use Rattle.ean_upc.specs.Tables.{setA, setB}
+use Rattle.ean_upc.specs.Halves.{patternsOf}
+
+pub distinct-sets : (sets : Sets) → T (distinct (patternsOf sets))
+unfolding valueIn firstNot same
+distinct-sets A = tt
+distinct-sets AOrB = tt
+distinct-sets C = tt
+
+pub sized-sets : (sets : Sets) → T (sized 4 (patternsOf sets))
+sized-sets A = tt
+sized-sets AOrB = tt
+sized-sets C = tt
+
+pub four-widths : (sets : Sets) (v : ℕ) → v < length (patternsOf sets) → length (getD (patternsOf sets) v []) ≡ 4
+four-widths sets v h = length-at (patternsOf sets) 4 (sized-sets sets) v h
+
+pub length-of-half : (sets : Sets) (values : List ℕ) → Below (length (patternsOf sets)) values → length (drawn (patternsOf sets) values) ≡ 4 * length values
+length-of-half sets values below = length-of-drawn (patternsOf sets) 4 (sized-sets sets) values below
+
+pub candidate-in : (sets : Sets) (widths : List ℕ) (v : ℕ) → Candidate (setA ++ setB) widths v → Candidate (patternsOf sets) widths v
+candidate-in A widths v candidate u h is = candidate u (omega arith) (List·getD-append setA setB [] u h ∙ is)
+candidate-in AOrB widths v candidate u h is = candidate u h is
+candidate-in C widths v candidate u h is = candidate u (omega arith) (List·getD-append setA setB [] u h ∙ is)
