@@ -7,7 +7,7 @@ use native.Mathlib.Nat.{mod-eq-of-lt}
 use native.Mathlib.Omega.{arith}
 use lib.ListN.{length, getD, set}
 use lib.Dec.{eqb, eqb→eq}
-use Rattle.laws.proofs.Exchanged.{exchanged}
+use Rattle.laws.specs.Exchanged.{exchanged}
 use Rattle.laws.proofs.Remainders.{same-and-more, same-below, same-without, same-if-balanced, same-without-factor, same-if-exchanged}
 use Rattle.laws.proofs.Tables.{at-entry}
 use Rattle.laws.specs.Run.{run}

@@ -1,26 +1,26 @@
 -- The matcher finds exactly the pattern's value: among the patterns a value's key is its own, and six widths that are packed into a pattern's
 -- number are the pattern.
-use Prim.Native.Nat.{ℕ, _/_, _%_, _≤_, _<_}
-use mathlib.Core.Path.{_≡_, refl, sym, ap, _∙_}
+use Prim.Native.Nat.{ℕ, _/_, _%_, _<_}
+use mathlib.Core.Path.{_≡_, refl, sym, _∙_}
 use mathlib.Core.Bool.{Bool, true, false}
 use mathlib.Core.List.{List, [], _∷_}
 use native.Mathlib.Omega.{arith}
-use lib.ListN.{length, getD, take}
+use lib.ListN.{length, getD}
 use lib.Dec.{T, eqb, ltb, eqb→eq, ltb→lt}
-use borrow.Author.Tests.{lt-ltb}
 use Rattle.laws.specs.Packed.{packed}
 use Rattle.laws.proofs.Packed.{Bytes, packed-same}
 use Rattle.laws.proofs.Tables.{every, at-entry}
 use Rattle.laws.specs.Run.{run}
-use Rattle.patterns.specs.Patterns.{same, valueIn}
-use Rattle.patterns.proofs.PatternLaws.{same-true, value-of, value-none}
-use Rattle.code128.specs.declared.characters.Match.the-variants.{Value, Nothing}
+use Rattle.patterns.specs.Patterns.{same}
+use Rattle.patterns.specs.Matching.{Candidate}
+use Rattle.patterns.proofs.PatternLaws.{same-true}
+use Rattle.patterns.proofs.MatchLaws.{one-candidate}
 use Rattle.code128.specs.Characters.{patterns}
-use Rattle.code128.specs.Matching.{matchOf, sixPacked, keyOf, candidateOf, packedPatterns}
-use Rattle.code128.proofs.PatternLaws.{patterns-are, patterns-distinct, pattern-length}
+use Rattle.code128.specs.Matching.{sixPacked, keyOf, candidateOf, packedPatterns}
+use Rattle.code128.proofs.PatternLaws.{pattern-length}
 
 -- six widths as the code packs them
-pub packed-six : (xs : List ℕ) → 6 ≤ length xs → sixPacked xs ≡ packed (take 6 xs)
+pub packed-six : (xs : List ℕ) → length xs ≡ 6 → sixPacked xs ≡ packed xs
 unfolding packed
 packed-six [] h = absurd (omega arith)
 packed-six (a ∷ []) h = absurd (omega arith)
@@ -28,7 +28,8 @@ packed-six (a ∷ b ∷ []) h = absurd (omega arith)
 packed-six (a ∷ b ∷ c ∷ []) h = absurd (omega arith)
 packed-six (a ∷ b ∷ c ∷ d ∷ []) h = absurd (omega arith)
 packed-six (a ∷ b ∷ c ∷ d ∷ e ∷ []) h = absurd (omega arith)
-packed-six (a ∷ b ∷ c ∷ d ∷ e ∷ f ∷ rest) h = omega arith
+packed-six (a ∷ b ∷ c ∷ d ∷ e ∷ f ∷ []) h = omega arith
+packed-six (a ∷ b ∷ c ∷ d ∷ e ∷ f ∷ g ∷ rest) h = absurd (omega arith)
 
 -- a pattern's widths are bytes
 pub pattern-bytes : (v : ℕ) → v < 106 → Bytes (getD patterns v [])
@@ -39,38 +40,28 @@ pattern-bytes v h i within =
     (at-entry (λ (k : ℕ) (pattern : List ℕ). every (λ (k width : ℕ). ltb width 256) pattern) [] patterns tt v h)
     i within)
 
--- the tables: each candidate is a value, each pattern's key leads to its value, and each value's number is its pattern's
+-- the tables: each candidate is a value, and each value's number is its pattern's
 pub candidate-below : (key : ℕ) → key < 256 → candidateOf key < 106
 candidate-below key h = ltb→lt _ 106 (at-entry (λ (k x : ℕ). ltb (candidateOf k) 106) 0 (run 0 256) tt key h)
-
-candidate-right : (v : ℕ) → v < 106 → candidateOf (keyOf (packed (getD patterns v []))) ≡ v
-unfolding patterns packed
-candidate-right v h = eqb→eq _ v (at-entry (λ (k : ℕ) (pattern : List ℕ). eqb (candidateOf (keyOf (packed pattern))) k) [] patterns tt v h)
 
 pub packed-at : (v : ℕ) → v < 106 → getD packedPatterns v 0 ≡ packed (getD patterns v [])
 unfolding patterns packed
 packed-at v h = eqb→eq _ _ (at-entry (λ (k : ℕ) (pattern : List ℕ). eqb (getD packedPatterns k 0) (packed pattern)) [] patterns tt v h)
 
-module _ (widths : List ℕ) (six : length widths ≡ 6) (bytes : Bytes widths) where
-  abbrev candidate : ℕ
+module _ (widths : List ℕ) where
+  abbrev pub candidate : ℕ
   candidate = candidateOf (keyOf (packed widths))
 
-  pub match-found : packed widths ≡ packed (getD patterns candidate []) → Value candidate ≡ matchOf (valueIn patterns widths)
-  unfolding matchOf
-  match-found e =
-      let below = candidate-below (keyOf (packed widths)) (omega arith) in
-      let row : getD patterns candidate [] ≡ widths =
-      packed-same (getD patterns candidate []) widths (pattern-length candidate below ∙ sym six) (pattern-bytes candidate below) bytes (sym e) in
-      rw (value-of patterns patterns-distinct candidate widths (rw patterns-are below) row, patterns-are, lt-ltb candidate 106 below)
+  -- the one value that widths can have is the candidate of their key
+  pub one-value-of : Candidate patterns widths candidate
+  unfolding patterns packed
+  one-value-of = one-candidate (λ (pattern : List ℕ). candidateOf (keyOf (packed pattern))) patterns tt widths
 
-  pub match-none : (packed widths ≡ packed (getD patterns candidate []) → ⊥) → Nothing ≡ matchOf (valueIn patterns widths)
-  unfolding matchOf
-  match-none ne =
-      let none : valueIn patterns widths ≡ length patterns =
-      value-none patterns widths (λ v h e.
-      let is : candidate ≡ v = ap (λ (ws : List ℕ). candidateOf (keyOf (packed ws))) (sym e) ∙ candidate-right v (rw patterns-are at h) in
-      ne (sym (ap (λ (u : ℕ). packed (getD patterns u [])) is ∙ ap packed e))) in
-      rw (none, patterns-are)
+  -- and they have it where they are packed into the same number as its pattern
+  pub candidate-same : length widths ≡ 6 → Bytes widths → packed widths ≡ packed (getD patterns candidate []) → getD patterns candidate [] ≡ widths
+  candidate-same six bytes e =
+      let below = candidate-below (keyOf (packed widths)) (omega arith) in
+      packed-same (getD patterns candidate []) widths (pattern-length candidate below ∙ sym six) (pattern-bytes candidate below) bytes (sym e)
 
 -- the six bytes of a number
 abbrev pub unpacked : ℕ → List ℕ

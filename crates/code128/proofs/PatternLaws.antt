@@ -2,23 +2,17 @@
 -- equal, and none equal to the stop's first six widths.
 use Prim.Native.Nat.{ℕ, _%_, _<_}
 use mathlib.Core.Path.{_≡_, refl}
-use mathlib.Core.List.{List, [], _∷_}
+use mathlib.Core.List.{List, []}
 use lib.ListN.{length, getD, take}
 use lib.Dec.{T, eqb, eqb→eq}
 use Rattle.laws.specs.First.{firstNot}
 use Rattle.laws.specs.Sum.{sum}
 use Rattle.laws.proofs.Tables.{at-entry}
 use Rattle.patterns.specs.Patterns.{same, valueIn}
-use Rattle.patterns.proofs.PatternLaws.{distinct}
+use Rattle.patterns.proofs.PatternLaws.{distinct, one-value}
 use Rattle.patterns.proofs.CharacterLaws.{sized, length-at}
 use Rattle.patterns.proofs.DrawnSums.{sum-at}
-use Rattle.code128.specs.Characters.{patterns, stop}
-
--- every second width, from the first on
-abbrev pub bars : List ℕ → List ℕ
-bars [] = []
-bars (bar ∷ []) = bar ∷ []
-bars (bar ∷ space ∷ widths) = bar ∷ bars widths
+use Rattle.code128.specs.Characters.{patterns, stop, bars}
 
 pub patterns-are : length patterns ≡ 106
 unfolding patterns
@@ -28,9 +22,13 @@ pub patterns-sized : T (sized 6 patterns)
 unfolding patterns
 patterns-sized = tt
 
-pub patterns-distinct : T (distinct patterns)
+pub distinct-test : T (distinct patterns)
 unfolding patterns valueIn same firstNot
-patterns-distinct = tt
+distinct-test = tt
+
+-- no two patterns are equal
+pub patterns-distinct : (u v : ℕ) → u < 106 → v < 106 → getD patterns u [] ≡ getD patterns v [] → u ≡ v
+patterns-distinct u v hu hv same = one-value patterns distinct-test u v (rw patterns-are hu) (rw patterns-are hv) same
 
 pub pattern-length : (v : ℕ) → v < 106 → length (getD patterns v []) ≡ 6
 pattern-length v h = length-at patterns 6 patterns-sized v (rw patterns-are h)

@@ -6,7 +6,7 @@ use native.Mathlib.Nat.{le-of-suc-le-suc, not-suc-le-zero, add-zero, mul-le-mul}
 use native.Mathlib.Omega.{arith}
 use lib.ListN.{length, getD, set, drop, drop-of-length-le}
 use lib.Seq.{drop-cons}
-use Rattle.laws.proofs.Exchanged.{exchanged}
+use Rattle.laws.specs.Exchanged.{exchanged}
 use Rattle.code128.specs.Check.{placed}
 
 pub placed-more : (place : ℕ) (values : List ℕ) (i d : ℕ) → i < length values → placed place (drop i values) ≡ place * getD values i d + placed (suc place) (drop (suc i) values)

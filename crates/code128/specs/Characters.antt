@@ -28,3 +28,9 @@ patterns = map row rows
 -- "Stop (106): 2331112"
 abbrev pub stop : List ℕ
 stop = 2 ∷ 3 ∷ 3 ∷ 1 ∷ 1 ∷ 1 ∷ 2 ∷ []
+
+-- every second width, from the first on
+abbrev pub bars : List ℕ → List ℕ
+bars [] = []
+bars (bar ∷ []) = bar ∷ []
+bars (bar ∷ space ∷ widths) = bar ∷ bars widths

@@ -1,7 +1,7 @@
 -- Code 128.
 --
 --   row, patterns, stop   Characters   the widths of the 106 characters and of the stop
---   matchOf               Matching     what the matcher answers for six widths
+--   bars                  Characters   every second width
 --   sixPacked, keyOf      Matching     six widths as one number, and its key
 --   candidateOf, eights   Matching     the one value that widths with a key can have
 --   packedPatterns        Matching     the patterns, each as one number

@@ -1,21 +1,11 @@
--- What the matcher answers: the value of six widths, or nothing where they are no pattern. And the way that it takes instead of a walk
--- along the patterns: among them, a key of 8 bits, made of the widths as one number, tells a value from every other. Two tables hold what it
--- looks up, as the code has them; `MatchingLaws` tests both against the patterns.
+-- The way that the matcher takes instead of a walk along the patterns: among them, a key of 8 bits, made of the widths as one number, tells
+-- a value from every other. Two tables hold what it looks up, as the code has them; `MatchingLaws` tests both against the patterns.
 use Prim.Native.Nat.{ℕ, zero, suc, _+_, _*_, _/_, _%_, _^_}
 use mathlib.Core.Path.{_≡_}
-use mathlib.Core.Bool.{cond}
 use mathlib.Core.List.{List, [], _∷_}
-use lib.Dec.{ltb}
-use lib.ListN.{length, getD}
-use Rattle.code128.specs.declared.characters.Match.{Match}
-use Rattle.code128.specs.declared.characters.Match.the-variants.{Value, Nothing}
-use Rattle.code128.specs.Characters.{patterns}
+use lib.ListN.{getD}
 
--- by the value that the table of patterns gives
-unfoldable pub matchOf : ℕ → Match
-matchOf value = cond (ltb value (length patterns)) (Value value) Nothing
-
--- the first six widths as one number: the first at the lowest place, each next one 256 times higher
+-- six widths as one number: the first at the lowest place, each next one 256 times higher
 abbrev pub sixPacked : List ℕ → ℕ
 sixPacked part =
     getD part 0 0 + 0x100 * getD part 1 0 + 0x1_0000 * getD part 2 0 + 0x100_0000 * getD part 3 0

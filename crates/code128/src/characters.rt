@@ -1,18 +1,13 @@
 // The symbol characters: a value's pattern, and the value of six widths.
 ghost use mathlib.Core.Path.{_≡_};
 ghost use mathlib.Core.List.{[]};
-ghost use Prim.Native.Nat.{_<_, _≤_};
-ghost use lib.ListN.{length, getD, take};
-ghost use Rattle.patterns.specs.Patterns.{valueIn};
+ghost use Prim.Native.Nat.{_<_};
+ghost use lib.ListN.{length, getD};
+ghost use Rattle.patterns.specs.Matching.{matchIn};
 ghost use Rattle.code128.specs.Characters.{patterns};
-ghost use Rattle.code128.specs.Matching.{matchOf, sixPacked, keyOf, candidateOf};
+ghost use Rattle.code128.specs.Matching.{sixPacked, keyOf, candidateOf};
 use crate::tables;
-
-// The value of a character, 0 to 105, or that its widths are no pattern.
-pub enum Match {
-    Value(usize),
-    Nothing,
-}
+use patterns::Match;
 
 // The stop has seven widths; its first six are no value's pattern.
 pub const STOP: [u8; 7] = [2, 3, 3, 1, 1, 1, 2];
@@ -47,16 +42,16 @@ pub fn put_pattern(value: usize, to: &mut [u8])
     to[5] = widths[5];
 }
 
-// The value of the first six widths, judged on their own. Only one pattern can be theirs: its value is looked up, and the widths are
-// compared with it, all six as one number.
+// The value of six widths, judged on their own. Only one pattern can be theirs: its value is looked up, and the widths are compared with
+// it, all six as one number.
 pub fn value_of(part: &[u8]) -> Match
-    requires { ⌜ 6 ≤ length (now part) ⌝ }
-    ensures { λ r. ⌜ r ≡ matchOf (valueIn patterns (take 6 (now (part .entry)))) ⌝ }
+    requires { ⌜ length (now part) ≡ 6 ⌝ }
+    ensures { λ r. ⌜ r ≡ matchIn patterns (now (part .entry)) ⌝ }
 {
     let widths = packed_six(part);
     let candidate = candidate_of(key_of(widths));
     if widths == tables::packed_of(candidate) {
-        Match::Value(candidate)
+        Match::Value(candidate as u8)
     } else {
         Match::Nothing
     }
@@ -83,7 +78,7 @@ fn key_of(widths: u64) -> u64
 }
 
 fn packed_six(part: &[u8]) -> u64
-    requires { ⌜ 6 ≤ length (now part) ⌝ }
+    requires { ⌜ length (now part) ≡ 6 ⌝ }
     ensures { λ r. ⌜ r ≡ sixPacked (now (part .entry)) ⌝ }
 {
     let four = wide(part[0])

@@ -10,8 +10,7 @@ use borrow.Author.Tests.{le-leb, lt-leb}
 use Rattle.refusal.specs.declared.Refusal.{Refusal}
 use Rattle.refusal.specs.declared.Refusal.the-variants.{Sequence}
 use Rattle.refusal.specs.Outcome.{Outcome, made, refused, _>>=_, _>>_, must}
-use Rattle.refusal.specs.Fills.{laying}
-use Rattle.code_sets.specs.Reading.{in-set, spells, startSet, decoded, decodedInto}
+use Rattle.code_sets.specs.Reading.{in-set, spells, startSet, decoded}
 use Rattle.code_sets.specs.Readers.{readOn}
 
 -- a text that is not empty
@@ -37,18 +36,15 @@ decoded-as-read start values = go (spells (in-set (startSet start)) values)
     go (made text) = test text (leb (length text) 48)
     go (refused f) = refl
 
-module _ (start : ℕ) (values : List ℕ) (room : ℕ) where
+module _ (start : ℕ) (values : List ℕ) where
   abbrev read : Outcome (List ℕ)
   read = readOn [] (in-set (startSet start)) values
 
-  pub decoded-refused : (f : Refusal) → read ≡ refused f → decodedInto start values room ≡ refused f
-  unfolding decodedInto
+  pub decoded-refused : (f : Refusal) → read ≡ refused f → decoded start values ≡ refused f
   decoded-refused f e = rw (decoded-as-read start values, e)
 
-  pub decoded-empty : (text : List ℕ) → read ≡ made text → length text ≡ 0 → decodedInto start values room ≡ refused Sequence
-  unfolding decodedInto
+  pub decoded-empty : (text : List ℕ) → read ≡ made text → length text ≡ 0 → decoded start values ≡ refused Sequence
   decoded-empty text e h = rw (decoded-as-read start values, e) (rw (lt-leb 1 (length text) (omega arith)))
 
-  pub decoded-made : (text : List ℕ) → read ≡ made text → 1 ≤ length text → decodedInto start values room ≡ laying text room
-  unfolding decodedInto
+  pub decoded-made : (text : List ℕ) → read ≡ made text → 1 ≤ length text → decoded start values ≡ made text
   decoded-made text e h = rw (decoded-as-read start values, e) (rw (le-leb 1 (length text) h))

@@ -25,7 +25,7 @@ use Rattle.code_sets.specs.declared.readers.Run.{Run}
 use Rattle.code_sets.specs.declared.readers.Run.the-variants.{On, ToA, ToB, ToC, Stuck}
 use Rattle.code_sets.specs.Sets.{Set, setA, setB, setC, Meaning, meaningIn, byteIn, other}
 use Rattle.code_sets.specs.Reading.{Mode, in-set, shifted-from, Step, step, stuck, emitted, meant, stepIn, goOn, spells}
-use Rattle.code_sets.specs.Readers.{readOn, toRead, Came, Reached, Runs, changed, Puts}
+use Rattle.code_sets.specs.Readers.{readOn, toRead, Came, Reached, Runs, changed, RunPuts}
 
 -- the readers' one refusal
 only-sequence : (mode : Mode) (values : List ℕ) (f : Refusal) → spells mode values ≡ refused f → f ≡ Sequence
@@ -147,7 +147,7 @@ module _ (mode : Mode) (values : List ℕ) (i : ℕ) (here : i < length values) 
   passes next is = rw add-zero at (steps [] next is (omega arith))
 
   -- a value whose bytes are put
-  pub turns : (set : Set) (legal : Bool) (bytes : List ℕ) (least : ℕ) (r : Run) (after : List ℕ) → least ≤ i + 1 → stepIn mode value ≡ emitted legal bytes (in-set set) → Puts legal bytes (i + 1) n text r after → Runs mode set values i text n least r after
+  pub turns : (set : Set) (legal : Bool) (bytes : List ℕ) (least : ℕ) (r : Run) (after : List ℕ) → least ≤ i + 1 → stepIn mode value ≡ emitted legal bytes (in-set set) → RunPuts legal bytes (i + 1) n text r after → Runs mode set values i text n least r after
   turns set legal bytes least r after past is puts =
       record { reached = rw (puts .answer) (go legal (leb (n + length bytes) (length text)) refl is (puts .lent)) }
     where

@@ -5,9 +5,8 @@
 --   OnlyBC, SpellsBC          Spelling   the legal spellings that use only sets B and C
 --   Plain, Spelled            Spelling   a text of message bytes; a start, FNC1 and values that spell a text
 --   spells, decoded           Reading    the rule of the readers: the text of some values, or refusal 8
---   decodedInto               Reading    the rule of the call that lays the text in a lent list
 --   readOn                    Readers    what is to be read, after the text so far
---   Came, Runs, Puts          Readers    how far a reading has come, and what each function of the readers answers
+--   Came, Runs, RunPuts       Readers    how far a reading has come, and what each function of the readers answers
 pub mod Sets
 pub mod Reading
 pub mod Spelling

@@ -51,6 +51,6 @@ changed setB i n = ToB i n
 changed setC i n = ToC i n
 
 -- bytes put at a place of a list, where they are legal and there is room, to go on at a place of the values
-pub record Puts (legal : Bool) (bytes : List ℕ) (next at : ℕ) (before : List ℕ) (r : Run) (after : List ℕ) : Type 0 where
+pub record RunPuts (legal : Bool) (bytes : List ℕ) (next at : ℕ) (before : List ℕ) (r : Run) (after : List ℕ) : Type 0 where
   pub answer : r ≡ cond (legal && leb (at + length bytes) (length before)) (On next (at + length bytes)) Stuck
   pub lent : (legal && leb (at + length bytes) (length before)) ≡ true → after ≡ sets before at bytes

@@ -8,7 +8,6 @@ use lib.Dec.{leb, ltb, eqb}
 use Rattle.character_set_82.specs.Characters.{isOf82}
 use Rattle.refusal.specs.declared.Refusal.the-variants.{Sequence}
 use Rattle.refusal.specs.Outcome.{Outcome, made, refused, _>>=_, _>>_, must}
-use Rattle.refusal.specs.Fills.{laying}
 use Rattle.code_sets.specs.Sets.{Set, setA, setB, setC, Meaning, byte, pair, change, shift, separator, illegal, meaningIn, byteIn, other}
 
 -- what a reader goes on with: a set, or one character in the other of A and B first
@@ -64,9 +63,3 @@ decoded start values = do
   text ← spells (in-set (startSet start)) values
   must (leb 1 (length text) && leb (length text) 48) Sequence
   made text
-
--- the rule of the call that lays it in a list with so much room: 12 last
-unfoldable pub decodedInto : ℕ → List ℕ → ℕ → Outcome (List ℕ)
-decodedInto start values room = do
-  text ← decoded start values
-  laying text room

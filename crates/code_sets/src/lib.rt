@@ -2,8 +2,8 @@
 ghost use mathlib.Core.List.{[]};
 ghost use mathlib.Core.Path.{_≡_};
 ghost use lib.ListN.{length};
-ghost use Rattle.refusal.specs.Fills.{Fills, FillsOwn};
-ghost use Rattle.code_sets.specs.Reading.{in-set, startSet, decodedInto};
+ghost use Rattle.refusal.specs.Fills.{FillsOwn};
+ghost use Rattle.code_sets.specs.Reading.{in-set, startSet, decoded};
 ghost use Rattle.code_sets.specs.Readers.{readOn};
 use refusal::Answer;
 use refusal::Refusal;
@@ -11,19 +11,19 @@ use refusal::Refusal;
 mod readers;
 pub mod sets;
 
-// The message that a start and the values after the first FNC1 spell: its bytes, or refusal 8 or 12.
+// The message that a start and the values after the first FNC1 spell, in a list of the caller's own; or refusal 8.
 pub fn text_of(start: usize, values: &[u8], text: &mut [u8]) -> Answer
-    ensures { λ r. ⌜ Fills (decodedInto start (now (values .entry)) (length (now (text .entry)))) (now (text .entry)) r (now (text .exit)) ⌝ }
+    requires { ⌜ length (now text) ≡ 48 ⌝ }
+    ensures { λ r. ⌜ FillsOwn (decoded start (now (values .entry))) (now (text .entry)) r (now (text .exit)) ⌝ }
 {
-    let mut own = [0u8; 48];
-    let read = read_from(start, values, &mut own);
+    let read = read_from(start, values, text);
     let Answer::Done(count) = read else {
         return read;
     };
     if count == 0 {
         return Answer::Refused(Refusal::Sequence);
     }
-    refusal::lay(&own[..count], text)
+    read
 }
 
 // Reads in the set that the start names.

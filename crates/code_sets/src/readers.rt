@@ -9,7 +9,7 @@ ghost use Rattle.character_set_82.specs.Characters.{isOf82};
 ghost use Rattle.refusal.specs.Fills.{FillsOwn};
 ghost use Rattle.code_sets.specs.Sets.{setA, setB, setC};
 ghost use Rattle.code_sets.specs.Reading.{in-set, shifted-from};
-ghost use Rattle.code_sets.specs.Readers.{readOn, changed, Runs, Puts};
+ghost use Rattle.code_sets.specs.Readers.{readOn, changed, Runs, RunPuts};
 use crate::sets;
 use crate::sets::Meaning;
 use crate::sets::Set;
@@ -126,10 +126,10 @@ fn shifted_in(set: Set, values: &[u8], i: usize, text: &mut [u8], n: usize) -> R
     put_byte(sets::byte_in(sets::other_of(set), value), i + 1, text, n)
 }
 
-// Puts a byte, if it is one of the 82, and goes on at a place of the values.
+// RunPuts a byte, if it is one of the 82, and goes on at a place of the values.
 fn put_byte(byte: u8, next: usize, text: &mut [u8], n: usize) -> Run
     requires { ⌜ n ≤ 48 ⌝ }
-    ensures { λ r. ⌜ Puts (isOf82 byte) (byte ∷ []) next n (now (text .entry)) r (now (text .exit)) ⌝ }
+    ensures { λ r. ⌜ RunPuts (isOf82 byte) (byte ∷ []) next n (now (text .entry)) r (now (text .exit)) ⌝ }
 {
     if character_set_82::is_of_82(byte) {
         put(byte, next, text, n)
@@ -140,7 +140,7 @@ fn put_byte(byte: u8, next: usize, text: &mut [u8], n: usize) -> Run
 
 fn put(byte: u8, next: usize, text: &mut [u8], n: usize) -> Run
     requires { ⌜ n ≤ 48 ⌝ }
-    ensures { λ r. ⌜ Puts true (byte ∷ []) next n (now (text .entry)) r (now (text .exit)) ⌝ }
+    ensures { λ r. ⌜ RunPuts true (byte ∷ []) next n (now (text .entry)) r (now (text .exit)) ⌝ }
 {
     if n < text.len() {
         text[n] = byte;
@@ -152,7 +152,7 @@ fn put(byte: u8, next: usize, text: &mut [u8], n: usize) -> Run
 
 fn put_pair(pair: u8, next: usize, text: &mut [u8], n: usize) -> Run
     requires { ⌜ n ≤ 48 ⌝ }
-    ensures { λ r. ⌜ Puts true ((48 + pair / 10) ∷ (48 + pair % 10) ∷ []) next n (now (text .entry)) r (now (text .exit)) ⌝ }
+    ensures { λ r. ⌜ RunPuts true ((48 + pair / 10) ∷ (48 + pair % 10) ∷ []) next n (now (text .entry)) r (now (text .exit)) ⌝ }
 {
     if n + 2 <= text.len() {
         text[n] = b'0' + pair / 10;

@@ -11,14 +11,14 @@ use lib.ListN.{length, getD, set, length-append, length-set, List·getD-append}
 use lib.Seq.{getD-set-same, getD-set-other}
 use Rattle.laws.specs.Below.{Below}
 use Rattle.laws.proofs.BelowLaws.{below-set, below-exchanged}
-use Rattle.laws.proofs.Exchanged.{exchanged}
+use Rattle.laws.specs.Exchanged.{exchanged}
 use Rattle.refusal.specs.declared.Refusal.{Refusal}
 use Rattle.refusal.specs.Outcome.{Outcome, made, refused}
 use Rattle.patterns.specs.Patterns.{drawn}
 use Rattle.code128.specs.Characters.{patterns, stop}
-use Rattle.gs1_128.specs.Calls.{messageIn, reads}
+use Rattle.gs1_128.specs.Rules.{messageIn, reads}
 use Rattle.gs1_128.specs.Right.{IsSymbol}
-use Rattle.damage.specs.Damage.{allPatterns, charactersOf, setBoth, turned, Damaged, character-replaced, neighbours-exchanged, edge-moved, width-changed}
+use Rattle.damage.specs.Damage.{allPatterns, charactersOf, setBoth, Damaged, character-replaced, neighbours-exchanged, edge-moved, width-changed}
 use Rattle.gs1_128.proofs.Theorems.{read-as-symbol, call-reads-symbol}
 use Rattle.gs1_128.proofs.CheckedLaws.{one-place, one-exchange}
 use Rattle.damage.proofs.DamageLaws.{IsDrawnFrom, beforeStop, drawn-from, below-stop, six-elsewhere, six-inside, six-has, length-of-drawn-from, drawn-once, one-character, one-width}
@@ -61,7 +61,7 @@ module _ {widths message : List ℕ} (s : IsSymbol widths message) where
       go (inr even) = omega (arith, length-of-drawn-from (drawn-from s′))
 
   -- .. nor with two unequal neighbours exchanged, ..
-  exchanged-is-none : {message′ : List ℕ} (k : ℕ) → 1 ≤ k → k + 2 < length (charactersOf s) → getD (charactersOf s) k 0 ≢ getD (charactersOf s) (suc k) 0 → IsSymbol (drawn allPatterns (turned (charactersOf s) k)) message′ → ⊥
+  exchanged-is-none : {message′ : List ℕ} (k : ℕ) → 1 ≤ k → k + 2 < length (charactersOf s) → getD (charactersOf s) k 0 ≢ getD (charactersOf s) (suc k) 0 → IsSymbol (drawn allPatterns (exchanged k (charactersOf s))) message′ → ⊥
   exchanged-is-none k least h unequal s′ =
       let inside : suc k < length xs = omega (arith, length-append xs (106 ∷ [])) in
       let is : beforeStop s′ ≡ exchanged k xs = same-characters s′ (exchanged k xs) (below-exchanged 106 k xs inside (below-stop s)) (exchanged-drawn xs (below-stop s) k inside) in

@@ -11,7 +11,8 @@ use lib.Seq.{getD-drop, getD-set-other, getD-append-add}
 use lib.Dec.{T, eqb, eqb→eq}
 use Rattle.laws.specs.Below.{Below}
 use Rattle.laws.proofs.BelowLaws.{below-set, below-exchanged}
-use Rattle.laws.proofs.Exchanged.{exchanged, length-exchanged}
+use Rattle.laws.specs.Exchanged.{exchanged}
+use Rattle.laws.proofs.ExchangedLaws.{length-exchanged}
 use Rattle.laws.proofs.Tables.{every, at-entry}
 use Rattle.patterns.specs.Patterns.{drawn}
 use Rattle.code128.specs.Characters.{patterns, stop}

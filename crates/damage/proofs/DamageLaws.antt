@@ -19,7 +19,7 @@ use Rattle.patterns.proofs.PatternLaws.{value-at}
 use Rattle.patterns.proofs.CharacterLaws.{characters-of-drawn}
 use Rattle.code128.specs.Characters.{patterns, stop}
 use Rattle.code128.specs.Check.{checkOf}
-use Rattle.code128.proofs.PatternLaws.{patterns-are, patterns-sized, patterns-distinct, pattern-length, pattern-sum}
+use Rattle.code128.proofs.PatternLaws.{patterns-are, patterns-sized, distinct-test, pattern-length, pattern-sum}
 use Rattle.gs1_128.specs.Symbol.{symbolOf}
 use Rattle.gs1_128.specs.Right.{IsSymbol}
 use Rattle.gs1_128.proofs.DrawnLaws.{length-stopped}
@@ -75,9 +75,9 @@ pub drawn-once : (xs ys : List ℕ) → Below 106 xs → Below 106 ys → drawn 
 drawn-once xs ys below below′ e =
     let counts : length xs ≡ length ys = omega (arith, length-stopped xs below, length-stopped ys below′, ap length e) in
     made-same xs ys
-    (sym (characters-of-drawn patterns 6 patterns-sized patterns-distinct xs (rw patterns-are below) 0 stop)
+    (sym (characters-of-drawn patterns 6 patterns-sized distinct-test xs (rw patterns-are below) 0 stop)
     ∙ ap₂ (λ (n : ℕ) (widths : List ℕ). characters patterns 6 n 0 widths) counts e
-    ∙ characters-of-drawn patterns 6 patterns-sized patterns-distinct ys (rw patterns-are below′) 0 stop)
+    ∙ characters-of-drawn patterns 6 patterns-sized distinct-test ys (rw patterns-are below′) 0 stop)
 
 -- a symbol, by its characters before the stop
 pub record IsDrawnFrom (widths characters : List ℕ) : Type 0 where
@@ -102,9 +102,9 @@ module _ {widths damaged xs ys : List ℕ} (a : IsDrawnFrom widths xs) (b : IsDr
   pub one-character : (k : ℕ) → ((j : ℕ) → j < length xs → j ≢ k → sixAt j damaged ≡ sixAt j widths) → damaged ≡ widths
   one-character k same =
       let at : AgreeBut k xs ys =
-      λ j h other. sym (value-at patterns patterns-distinct (getD xs j 0) (rw patterns-are (below a j h)))
+      λ j h other. sym (value-at patterns distinct-test (getD xs j 0) (rw patterns-are (below a j h)))
       ∙ ap (valueIn patterns) (sym (six-of a j h) ∙ sym (same j h other) ∙ six-of b j (omega (arith, counts)))
-      ∙ value-at patterns patterns-distinct (getD ys j 0) (rw patterns-are (below b j (omega (arith, counts)))) in
+      ∙ value-at patterns distinct-test (getD ys j 0) (rw patterns-are (below b j (omega (arith, counts)))) in
       b .is ∙ ap (λ (zs : List ℕ). drawn patterns zs ++ stop) (sym (one-place (a .checked) (b .checked) counts k at)) ∙ sym (a .is)
 
   -- two symbols don't differ in one width of a character alone: each character sums to 11

@@ -7,15 +7,16 @@ use mathlib.Core.List.{List, [], _∷_, _++_, append-assoc}
 use native.Mathlib.Nat.{not-suc-le-zero, le-of-suc-le-suc}
 use native.Mathlib.Decide.{decLt}
 use native.Mathlib.Omega.{arith}
-use lib.ListN.{length, getD, set, length-append, length-set, List·getD-append}
+use lib.ListN.{length, getD, set, length-append, List·getD-append}
 use lib.Seq.{set-append-left, getD-at}
 use Rattle.laws.specs.Below.{Below}
 use Rattle.laws.proofs.BelowLaws.{below-first, below-rest, below-set, below-exchanged}
-use Rattle.laws.proofs.Exchanged.{exchanged, exchanged-sets}
+use Rattle.laws.specs.Exchanged.{exchanged}
+use Rattle.laws.proofs.ExchangedLaws.{exchanged-append}
 use Rattle.patterns.specs.Patterns.{drawn}
 use Rattle.code128.specs.Characters.{patterns, stop}
 use Rattle.code128.proofs.PatternLaws.{patterns-are, pattern-length}
-use Rattle.damage.specs.Damage.{allPatterns, setBoth, turned}
+use Rattle.damage.specs.Damage.{allPatterns}
 use Rattle.gs1_128.proofs.DrawnLaws.{length-stopped}
 
 -- the rows of the 107
@@ -77,14 +78,7 @@ module _ (xs : List ℕ) (below : Below 106 xs) where
       go (no past) (no stops) = absurd (other (omega (arith, last past)))
 
   -- two neighbours exchanged
-  exchanged-is : (k : ℕ) → suc k < length xs → turned full k ≡ exchanged k xs ++ (106 ∷ [])
-  exchanged-is k h =
-      let a = getD xs k 0 in
-      let b = getD xs (suc k) 0 in
-      ap₂ (setBoth full k) (List·getD-append xs (106 ∷ []) 0 (suc k) h) (List·getD-append xs (106 ∷ []) 0 k (omega arith))
-      ∙ ap (λ (zs : List ℕ). set zs (suc k) a) (set-append-left xs (106 ∷ []) k b (omega arith))
-      ∙ set-append-left (set xs k b) (106 ∷ []) (suc k) a (omega (arith, length-set xs k b))
-      ∙ ap (λ (zs : List ℕ). zs ++ (106 ∷ [])) (sym (exchanged-sets k xs 0 h))
-
-  pub exchanged-drawn : (k : ℕ) → suc k < length xs → drawn allPatterns (turned full k) ≡ drawn patterns (exchanged k xs) ++ stop
-  exchanged-drawn k h = ap (drawn allPatterns) (exchanged-is k h) ∙ drawn-with-stop (exchanged k xs) (below-exchanged 106 k xs h below)
+  pub exchanged-drawn : (k : ℕ) → suc k < length xs → drawn allPatterns (exchanged k full) ≡ drawn patterns (exchanged k xs) ++ stop
+  exchanged-drawn k h =
+      ap (drawn allPatterns) (exchanged-append k xs (106 ∷ []) h)
+      ∙ drawn-with-stop (exchanged k xs) (below-exchanged 106 k xs h below)

@@ -8,10 +8,6 @@ use borrow.Author.Tests.{eqb-true}
 use Rattle.refusal.specs.declared.Refusal.{Refusal}
 use Rattle.refusal.specs.Outcome.{Outcome, made, refused}
 use Rattle.refusal.proofs.OutcomeLaws.{made-not-refused}
-use Rattle.ean13.specs.Ean13.{scanned as scanned13, reads as reads13}
-use Rattle.ean8.specs.Ean8.{scanned as scanned8, reads as reads8}
-use Rattle.itf14.specs.Itf14.{scanned as scanned14, reads as reads14}
-use Rattle.itf14.proofs.ScannedLaws.{scanned-parts}
 use Rattle.gs1_128.specs.Right.{IsSymbol}
 use Rattle.damage.specs.Damage.{Damaged}
 use Rattle.damage.proofs.Damage.{call-refuses-damaged}
@@ -20,18 +16,17 @@ use Rattle.symbols.specs.declared.Kind.{Kind}
 use Rattle.symbols.specs.declared.Kind.the-variants.{Ean13, Ean8, Itf14, Gs1128}
 use Rattle.symbols.specs.Kinds.{readsAs}
 use Rattle.symbols.specs.Readings.{reads}
-use Rattle.symbols.proofs.KindLaws.{number-scanned, counted13, ends8}
+use Rattle.symbols.proofs.KindLaws.{count-of-read, ends8}
 use Rattle.symbols.proofs.Theorems.{read-exactly-as-kind}
 
 module _ {widths message damaged : List ℕ} (s : IsSymbol widths message) (d : Damaged s damaged) (room : ℕ) where
   no-kind-reads : (kind : Kind) (bytes : List ℕ) → readsAs kind damaged room ≡ made bytes → ⊥
-  unfolding readsAs reads13 reads8 reads14
-  no-kind-reads Ean13 bytes e =
-      damaged-count s d .0 (eqb-true (length damaged) 59 (counted13 damaged _ (number-scanned (scanned13 damaged) room bytes e .1)))
+  unfolding readsAs
+  no-kind-reads Ean13 bytes e = damaged-count s d .0 (eqb-true (length damaged) 59 (count-of-read damaged Ean13 room bytes e))
   no-kind-reads Ean8 bytes e =
-      let ends = ends8 damaged _ (number-scanned (scanned8 damaged) room bytes e .1) in
-      damaged-guard s d (eqb-true (length damaged) 43 (ends .0)) (ends .1) (ends .2)
-  no-kind-reads Itf14 bytes e = damaged-count s d .1 (scanned-parts damaged _ (number-scanned (scanned14 damaged) room bytes e .1) .1)
+      let ends = ends8 damaged room bytes e in
+      damaged-guard s d (eqb-true (length damaged) 43 (count-of-read damaged Ean8 room bytes e)) (ends .0) (ends .1)
+  no-kind-reads Itf14 bytes e = damaged-count s d .1 (eqb-true (length damaged) 77 (count-of-read damaged Itf14 room bytes e))
   no-kind-reads Gs1128 bytes e =
       let refusal = call-refuses-damaged s d room in
       made-not-refused bytes (refusal .0) (sym e ∙ refusal .1)

@@ -6,6 +6,7 @@ use mathlib.Core.Path.{_≡_}
 use mathlib.Core.Logic.{_≢_}
 use mathlib.Core.List.{List, [], _∷_, _++_}
 use lib.ListN.{length, getD, set}
+use Rattle.laws.specs.Exchanged.{exchanged}
 use Rattle.patterns.specs.Patterns.{drawn}
 use Rattle.code128.specs.Characters.{patterns, stop}
 use Rattle.code128.specs.Check.{checkOf}
@@ -23,17 +24,13 @@ charactersOf s = (s .start ∷ 102 ∷ s .values) ++ (checkOf (s .start) (102 �
 abbrev pub setBoth : List ℕ → ℕ → ℕ → ℕ → List ℕ
 setBoth xs i x y = set (set xs i x) (suc i) y
 
--- the list with each of the elements at i and i + 1 where the other stood
-abbrev pub turned : List ℕ → ℕ → List ℕ
-turned xs i = setBoth xs i (getD xs (suc i) 0) (getD xs i 0)
-
 pub data Damaged {widths message : List ℕ} (s : IsSymbol widths message) : List ℕ → Type 0 where
   -- the character at k, the start and the stop included, is another of the 107
   character-replaced : (k c : ℕ) → k < length (charactersOf s) → c < 107 → c ≢ getD (charactersOf s) k 0
       → Damaged s (drawn allPatterns (set (charactersOf s) k c))
   -- the characters at k and k + 1, after the start and before the stop, change places; the check character may be one of them
   neighbours-exchanged : (k : ℕ) → 1 ≤ k → k + 2 < length (charactersOf s) → getD (charactersOf s) k 0 ≢ getD (charactersOf s) (suc k) 0
-      → Damaged s (drawn allPatterns (turned (charactersOf s) k))
+      → Damaged s (drawn allPatterns (exchanged k (charactersOf s)))
   -- the edge between the widths at i and i + 1: together they are as wide as before, and the first isn't
   edge-moved : (i x y : ℕ) → suc i < length widths → x + y ≡ getD widths i 0 + getD widths (suc i) 0 → x ≢ getD widths i 0
       → Damaged s (setBoth widths i x y)

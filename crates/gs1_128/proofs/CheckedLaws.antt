@@ -4,20 +4,17 @@ use Prim.Native.Nat.{ℕ, zero, suc, _+_, _≤_, _<_}
 use mathlib.Core.Path.{_≡_, refl, sym, ap, ap₂, _∙_, subst}
 use mathlib.Core.Logic.{_≢_}
 use mathlib.Core.List.{List, [], _∷_, _++_}
-use native.Mathlib.Nat.{not-suc-le-zero, le-of-suc-le-suc}
 use native.Mathlib.Decide.{decLt, ℕ-discrete}
 use native.Mathlib.Omega.{arith}
 use lib.ListN.{length, getD, set, take, length-append, length-set, List·getD-append}
 use lib.Seq.{ext-getD, getD-at, getD-append-seam, getD-set-same, getD-set-other, set-getD, take-all, take-suc, length-take-le}
 use Rattle.laws.specs.Below.{Below}
 use Rattle.laws.proofs.BelowLaws.{below-more, below-last, below-greater}
-use Rattle.laws.proofs.Exchanged.{exchanged}
+use Rattle.laws.specs.Exchanged.{exchanged}
+use Rattle.laws.proofs.ExchangedLaws.{exchanged-append}
 use Rattle.code128.specs.Check.{checkOf}
 use Rattle.code128.proofs.CheckLaws.{check-below, check-of-replaced, check-of-exchanged, check-of-other-start, check-of-exchanged-check}
-
--- values, and their check after a start
-abbrev withCheck : ℕ → List ℕ → List ℕ
-withCheck start values = values ++ (checkOf start values ∷ [])
+use Rattle.gs1_128.specs.Symbol.{withCheck}
 
 -- a start, up to 100 values that are allowed after it, and their check
 pub record Checked (characters : List ℕ) : Type 0 where
@@ -121,13 +118,6 @@ module _ {xs ys : List ℕ} (a : Checked xs) (b : Checked ys) (e : length xs ≡
       at : ℕ → List ℕ → ℕ
       at j zs = getD zs j 0
 
--- two neighbours of a list that goes on ..
-exchanged-before : (xs ys : List ℕ) (j : ℕ) → suc j < length xs → exchanged j (xs ++ ys) ≡ exchanged j xs ++ ys
-exchanged-before [] ys j h = absurd (not-suc-le-zero h)
-exchanged-before (x ∷ []) ys zero h = absurd (omega arith)
-exchanged-before (x ∷ y ∷ xs) ys zero h = refl
-exchanged-before (x ∷ xs) ys (suc j) h = ap (λ (rest : List ℕ). x ∷ rest) (exchanged-before xs ys j (le-of-suc-le-suc h))
-
 -- .. or its last two
 exchanged-last : (xs : List ℕ) (a b j : ℕ) → length xs ≡ j → exchanged j ((xs ++ (a ∷ [])) ++ (b ∷ [])) ≡ (xs ++ (b ∷ [])) ++ (a ∷ [])
 exchanged-last [] a b zero e = refl
@@ -144,7 +134,7 @@ module _ (start : ℕ) (values : List ℕ) (below : Below 103 values) (most : le
   before-check : suc j < length values → exchanged j (withCheck start values) ≡ withCheck start values′ → Twins j (withCheck start values)
   before-check h same =
       let check = checkOf start values in
-      let both = last-same (exchanged j values) values′ check (checkOf start values′) (sym (exchanged-before values (check ∷ []) j h) ∙ same) in
+      let both = last-same (exchanged j values) values′ check (checkOf start values′) (sym (exchanged-append j values (check ∷ []) h) ∙ same) in
       let still : checkOf start (exchanged j values) ≡ check = ap (checkOf start) (both .0) ∙ sym (both .1) in
       List·getD-append values (check ∷ []) 0 j (omega arith)
       ∙ check-of-exchanged start values j h (below j (omega arith)) (below (suc j) h) still

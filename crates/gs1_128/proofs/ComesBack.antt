@@ -5,6 +5,7 @@ use mathlib.Core.Path.{_≡_, refl, sym, ap, _∙_, subst}
 use mathlib.Core.List.{List}
 use native.Mathlib.Omega.{arith}
 use lib.ListN.{length}
+use Rattle.laws.specs.Below.{Below}
 use Rattle.refusal.specs.Outcome.{made}
 use Rattle.refusal.proofs.OutcomeLaws.{bind-made}
 use Rattle.refusal.proofs.FillsLaws.{laying-made, made-of-laying}
@@ -18,13 +19,10 @@ use Rattle.spelling.proofs.BestLaws.{best-short, best-long}
 use Rattle.spelling.proofs.BestSpelled.{best-is-spelled}
 use Rattle.spelling.proofs.Shortest.{none-shorter}
 use Rattle.gs1_128.specs.Symbol.{symbolOf}
-use Rattle.gs1_128.specs.Calls.{messageIn, reads, writes}
+use Rattle.gs1_128.specs.Rules.{messageIn, reads, bestSymbol, writes}
 use Rattle.gs1_128.specs.Right.{IsSymbol}
+use Rattle.gs1_128.proofs.DrawnLaws.{symbol-below}
 use Rattle.gs1_128.proofs.Theorems.{read-as-symbol, call-reads-symbol, one-message, length-of-right}
-
--- the symbol that is drawn for a message
-abbrev pub bestSymbol : List ℕ → List ℕ
-bestSymbol message = symbolOf (bestSpelling message)
 
 -- of a right message
 module _ (message : List ℕ) (strings : List ElementString) (m : IsMessage message strings) where
@@ -79,6 +77,10 @@ message-of-written message widths room e = read-as-symbol widths message .1 (wri
 
 pub read-of-write : (message widths : List ℕ) (room room′ : ℕ) → writes message room ≡ made widths → length message ≤ room′ → reads widths room′ ≡ made message
 read-of-write message widths room room′ e h = call-reads-symbol widths message room′ .1 (written message widths room e .0, h)
+
+-- every width has one digit
+pub widths-below : (message widths : List ℕ) (room : ℕ) → writes message room ≡ made widths → Below 10 widths
+widths-below message widths room e = rw (written message widths room e .1) (symbol-below (bestSpelling message))
 
 -- no two messages are drawn as one list
 pub one-message-written : (message message′ widths : List ℕ) (room room′ : ℕ) → writes message room ≡ made widths → writes message′ room′ ≡ made widths → message ≡ message′

@@ -3,9 +3,10 @@
 --   TableLaws       which of the 106 patterns start a symbol, and which may follow
 --   CountLaws       the permitted counts of widths
 --   SymbolLaws      the scan and the drawing of a symbol undo one another
+--   JudgedLaws      values are judged right exactly where FNC1 and their check stand about them
 --   ReadingLaws     what the scan makes is a symbol's start and values, and every symbol's are made
 --   TextLaws        a text that was decoded has only bytes of a message
---   StageLaws       the reader's stages, one after the other, are the rule
+--   StageLaws       the rule of the message, met by the calls stage by stage
 --   WithCheckLaws   a spelling and the place of its check character
 --   CheckedLaws     with its check character no other such list differs from it a little
 --   DrawnLaws       characters drawn one after the other, then the stop
@@ -15,6 +16,7 @@
 pub mod TableLaws
 pub mod CountLaws
 pub mod SymbolLaws
+pub mod JudgedLaws
 pub mod ReadingLaws
 pub mod TextLaws
 pub mod StageLaws

@@ -1,6 +1,6 @@
 -- A text that was decoded has 1 to 48 bytes, each of the 82 or the separator, so the test of a whole message comes to that of its element
 -- strings.
-use Prim.Native.Nat.{ℕ, suc, _+_, _/_, _%_, _≤_, _<_}
+use Prim.Native.Nat.{ℕ, suc, _+_, _/_, _%_, _<_}
 use mathlib.Core.Path.{_≡_, refl, ap}
 use mathlib.Core.Bool.{true}
 use mathlib.Core.List.{List, _∷_}
@@ -8,16 +8,14 @@ use native.Mathlib.Omega.{arith}
 use lib.ListN.{length}
 use borrow.Author.Tests.{le-leb, eq-eqb}
 use Rattle.laws.specs.First.{firstNot}
-use Rattle.refusal.specs.Outcome.{Outcome, made, refused, _>>=_}
-use Rattle.refusal.specs.Fills.{laying}
-use Rattle.refusal.proofs.FillsLaws.{laying-made}
+use Rattle.refusal.specs.Outcome.{made}
 use Rattle.character_set_82.specs.Characters.{isMessageByte}
 use Rattle.elements.specs.Strings.{parsed, tested}
 use Rattle.character_set_82.proofs.CharacterLaws.{digit-of-82, message-byte, separator-byte}
 use Rattle.code_sets.specs.declared.sets.Set.{Set}
 use Rattle.code_sets.specs.declared.sets.Meaning.the-variants.{Pair as pair}
 use Rattle.code_sets.specs.Spelling.{Spells, ended, a-byte, a-pair, a-shift, a-change, a-separator}
-use Rattle.code_sets.specs.Reading.{decoded, decodedInto}
+use Rattle.code_sets.specs.Reading.{decoded}
 use Rattle.code_sets.proofs.MeaningLaws.{Means, pair-of-c, means}
 use Rattle.code_sets.proofs.Theorems.{decoded-as-spelled}
 
@@ -49,12 +47,3 @@ tested-of-decoded start values text e =
     let s = decoded-as-spelled start values text .1 e in
     let all = spelled-bytes (s .0) in
     simp (le-leb 1 (length text) (s .1), le-leb (length text) 48 (s .2), eq-eqb _ _ all)
-
--- 48 places are room enough
-pub decoded-into-48 : (start : ℕ) (values : List ℕ) (room : ℕ) → 48 ≤ room → decodedInto start values room ≡ decoded start values
-unfolding decodedInto
-decoded-into-48 start values room h = go (decoded start values) refl
-  where
-    go : (o : Outcome (List ℕ)) → decoded start values ≡ o → (o >>= (λ (text : List ℕ). laying text room)) ≡ o
-    go (refused f) e = refl
-    go (made text) e = laying-made text room (omega (arith, decoded-as-spelled start values text .1 e .2))

@@ -18,15 +18,15 @@ use Rattle.elements.proofs.FromRule.{message-of-parsed, tested-made}
 use Rattle.elements.proofs.Theorems.{accepted-of-strings, one-splitting}
 use Rattle.code_sets.specs.Reading.{decoded}
 use Rattle.code_sets.proofs.Theorems.{decoded-as-spelled}
-use Rattle.gs1_128.specs.Symbol.{scanned}
-use Rattle.gs1_128.specs.Calls.{messageIn, reads}
+use Rattle.gs1_128.specs.Scanning.{scanned}
+use Rattle.gs1_128.specs.Rules.{messageFrom, messageIn, reads}
 use Rattle.gs1_128.specs.Right.{IsSymbol}
-pub use Rattle.gs1_128.proofs.SymbolLaws.{length-of-symbol}
-pub use Rattle.gs1_128.proofs.ReadingLaws.{IsDrawn, scanned-as-drawn, one-spelling}
+use Rattle.gs1_128.proofs.SymbolLaws.{length-of-symbol}
+use Rattle.gs1_128.proofs.ReadingLaws.{IsDrawn, scanned-as-drawn}
 
 -- what is read is a right symbol
 pub symbol-of-read : (widths message : List ℕ) → messageIn widths ≡ made message → IsSymbol widths message
-unfolding messageIn
+unfolding messageIn messageFrom
 symbol-of-read widths message o =
     let a = bind-made (scanned widths) _ message o in
     let symbol = a .0 in
@@ -55,7 +55,7 @@ symbol-drawn s = record { least-start = s .least-start; most-start = s .most-sta
 
 -- every right symbol is read
 read-of-symbol : (widths message : List ℕ) → IsSymbol widths message → messageIn widths ≡ made message
-unfolding messageIn
+unfolding messageIn messageFrom
 read-of-symbol widths message s =
     let m = s .right in
     let t = accepted-of-strings message (s .strings) m in

@@ -20,7 +20,7 @@ use Rattle.code_sets.specs.Spelling.{Spelled}
 use Rattle.spelling.proofs.BestLaws.{best-short}
 use Rattle.spelling.proofs.BestSpelled.{best-is-spelled}
 use Rattle.gs1_128.specs.Symbol.{checked, symbolOf}
-use Rattle.gs1_128.specs.Calls.{writes}
+use Rattle.gs1_128.specs.Rules.{writes}
 use Rattle.gs1_128.proofs.CheckedLaws.{below-checked}
 
 module _ (message : List ℕ) (room : ℕ) where

@@ -3,18 +3,20 @@
 use Prim.Native.Nat.{ℕ, _+_, _-_, _/_, _%_}
 use mathlib.Core.Bool.{Bool, _&&_}
 use mathlib.Core.List.{List, [], _∷_, _++_}
-use lib.ListN.{length, getD, take, drop}
-use lib.Dec.{leb, ltb, eqb}
-use Rattle.refusal.specs.declared.Refusal.the-variants.{Count, Guard, CheckCharacter, FirstCharacter}
-use Rattle.refusal.specs.Outcome.{Outcome, made, _>>=_, _>>_, must}
-use Rattle.patterns.specs.Patterns.{same, valueIn, drawn, characters}
+use lib.ListN.{length, take, drop}
+use lib.Dec.{leb, eqb}
+use Rattle.patterns.specs.Patterns.{drawn}
 use Rattle.code128.specs.Characters.{patterns, stop}
 use Rattle.code128.specs.Check.{checkOf}
+
+-- the values after a start, with their check character
+abbrev pub withCheck : ℕ → List ℕ → List ℕ
+withCheck start values = values ++ (checkOf start values ∷ [])
 
 -- a start and the values after it, with their check character
 abbrev pub checked : List ℕ → List ℕ
 checked [] = []
-checked (start ∷ values) = start ∷ (values ++ (checkOf start values ∷ []))
+checked (start ∷ values) = start ∷ withCheck start values
 
 -- the widths of a start and the values after it, with their check character and the stop
 unfoldable pub symbolOf : List ℕ → List ℕ
@@ -35,26 +37,3 @@ starts = drop 103 patterns
 
 abbrev pub allowed : List (List ℕ)
 allowed = take 103 patterns
-
--- the start at the front, and all seven widths of the stop at the end
-unfoldable pub guarded : List ℕ → Bool
-guarded widths = ltb (valueIn starts (take 6 widths)) 3 && same (drop (length widths - 7) widths) stop
-
--- the value of the start, 103 to 105
-abbrev pub startOf : List ℕ → ℕ
-startOf widths = 103 + valueIn starts (take 6 widths)
-
--- what a symbol holds: its start, and the values after the first FNC1
-pub record Scanned : Type 0 where
-  pub start : ℕ
-  pub values : List ℕ
-
--- refusals 1, 4, 5, 6 and 7; "the start of GS1-128 is 0", so the first FNC1 is place 1 and the check n + 1
-unfoldable pub scanned : List ℕ → Outcome Scanned
-scanned widths = do
-  must (permitted (length widths)) Count
-  must (guarded widths) Guard
-  values ← characters allowed 6 (countOf widths + 1) 1 (drop 6 widths)
-  must (eqb (getD values (countOf widths) 0) (checkOf (startOf widths) (take (countOf widths) values))) CheckCharacter
-  must (eqb (getD values 0 0) 102) FirstCharacter
-  made (record { start = startOf widths; values = drop 1 (take (countOf widths) values) })

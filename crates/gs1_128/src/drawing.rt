@@ -23,7 +23,7 @@ pub fn characters_of(message: &[u8], characters: &mut [u8]) -> usize
     ensures { λ r. ⌜ r ≡ length (checked (bestSpelling (now (message .entry)))) ⌝ }
     ensures { λ r. ⌜ take r (now (characters .exit)) ≡ checked (bestSpelling (now (message .entry))) ⌝ }
 {
-    let count = spelling::spell(message, &mut characters[0..50]);
+    let count = spelling::spell(message, characters);
     let check = code128::check::check_of(characters[0] as usize, &characters[1..count]);
     characters[count] = check as u8;
     count + 1

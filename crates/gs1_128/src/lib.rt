@@ -2,15 +2,17 @@
 ghost use mathlib.Core.Path.{_≡_};
 ghost use Prim.Native.Nat.{_+_, _-_, _*_, _/_, _≤_, _<_};
 ghost use lib.ListN.{length};
+ghost use Rattle.refusal.specs.Outcome.{_>>=_ as _then_};
 ghost use Rattle.refusal.specs.Fills.{Fills, FillsOwn};
 ghost use Rattle.gs1_128.specs.Symbol.{permitted};
-ghost use Rattle.gs1_128.specs.Calls.{messageIn, reads, writes};
-ghost use Rattle.gs1_128.specs.Stages.{textIn};
+ghost use Rattle.gs1_128.specs.Scanning.{valuesIn, judgedValues};
+ghost use Rattle.gs1_128.specs.Rules.{messageFrom, messageIn, reads, writes};
 use refusal::Answer;
 use refusal::Refusal;
 
 mod drawing;
 mod scanning;
+mod values;
 
 // A symbol's start, 103 to 105, and its n: how many characters stand between the start and the check, the first FNC1 among them.
 pub struct Gs1128 {
@@ -37,8 +39,13 @@ impl Gs1128 {
 
     pub const BYTES: usize = 48;
 
+    // What is written has at most so many characters, start and check among them, and so many widths, the room that any writing fits in.
+    pub const WRITTEN_CHARACTERS: usize = 51;
+
+    pub const WRITTEN: usize = Gs1128::CHARACTER * Gs1128::WRITTEN_CHARACTERS + Gs1128::STOP_WIDTHS;
+
     // The lowest start: the values allowed after a start are those below it. The first of them is FNC1.
-    pub const LEAST_START: usize = 103;
+    pub const LEAST_START: u8 = 103;
 
     pub const FNC1: u8 = 102;
 
@@ -50,7 +57,7 @@ impl Gs1128 {
         let Answer::Done(_) = tested else {
             return tested;
         };
-        let mut characters = [0u8; 51];
+        let mut characters = [0u8; Gs1128::WRITTEN_CHARACTERS];
         let count = drawing::characters_of(message, &mut characters);
         drawing::draw(&characters[0..count], widths)
     }
@@ -87,16 +94,10 @@ impl Gs1128 {
         let Answer::Done(start) = started else {
             return started;
         };
+        let symbol = Gs1128::of_widths(start, widths.len());
+        let end = symbol.count + 1;
         let mut values = [0u8; Gs1128::CHARACTERS + 1];
-        let read = Gs1128::of_widths(start, widths.len()).text(widths, &mut values, text);
-        let Answer::Done(count) = read else {
-            return read;
-        };
-        let judged = elements::test(&text[..count]);
-        let Answer::Done(_) = judged else {
-            return judged;
-        };
-        read
+        symbol.message(widths, &mut values[0..end], text)
     }
 
     // Whether a symbol can have so many widths.
@@ -124,21 +125,25 @@ impl Gs1128 {
         }
     }
 
-    // The text that the symbol's values spell, once they stand in a list of the call's own: refusals 5, 6, 7 and 8.
-    fn text(self, widths: &[u8], values: &mut [u8], text: &mut [u8]) -> Answer
+    // The symbol's message, once its values stand in a list of the call's own: refusals 5 to 11.
+    fn message(self, widths: &[u8], own: &mut [u8], text: &mut [u8]) -> Answer
         requires { ⌜ self .start < 106 ⌝ }
         requires { ⌜ (2 ≤ self .count) × (self .count ≤ 100) ⌝ }
         requires { ⌜ length (now widths) ≡ 6 * self .count + 19 ⌝ }
-        requires { ⌜ length (now values) ≡ 101 ⌝ }
+        requires { ⌜ length (now own) ≡ self .count + 1 ⌝ }
         requires { ⌜ length (now text) ≡ 48 ⌝ }
-        ensures { λ r. ⌜ FillsOwn (textIn (self .start) (now (widths .entry))) (now (text .entry)) r (now (text .exit)) ⌝ }
+        ensures { λ r. ⌜ FillsOwn (valuesIn (now (widths .entry)) then (λ values. judgedValues (self .start) values then messageFrom (self .start))) (now (text .entry)) r (now (text .exit)) ⌝ }
     {
         let start = self.start;
         let count = self.count;
-        let scanned = scanning::values_in(start, widths, &mut values[0..count + 1]);
+        let scanned = scanning::values_in(widths, own);
         let Answer::Done(_) = scanned else {
             return scanned;
         };
-        code_sets::text_of(start, &values[1..count], text)
+        let judged = values::judged(start, own);
+        let Answer::Done(_) = judged else {
+            return judged;
+        };
+        values::message_from(start, &own[1..count], text)
     }
 }

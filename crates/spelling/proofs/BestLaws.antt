@@ -23,14 +23,6 @@ pairOf a b = 10 * valueOf a + valueOf b
 abbrev pub beginC : ℕ → List ℕ → Option (List ℕ)
 beginC byte rest = firstC byte rest (bests rest .0) (bests rest .1)
 
-pub bests-step : (byte : ℕ) (rest : List ℕ) → bests (byte ∷ rest) .0 ≡ chosen (valueB byte ∷ fromB rest) (beginC byte rest)
-unfolding bests
-bests-step byte rest = refl
-
-pub bests-second : (byte : ℕ) (rest : List ℕ) → bests (byte ∷ rest) .1 ≡ bests rest .0
-unfolding bests
-bests-second byte rest = refl
-
 pub begins-separator : (rest : List ℕ) → beginC separator rest ≡ some (102 ∷ fromC rest)
 begins-separator [] = refl
 begins-separator (next ∷ more) = refl

@@ -104,9 +104,6 @@ begins-none byte (next ∷ more) not-separator not-pair = rw (ne-eqb byte separa
 
 -- any other byte has a value in set B only
 module _ (byte : ℕ) (rest : List ℕ) (not-separator : byte ≡ separator → ⊥) (not-pair : (isDigit byte && isDigit (getD rest 0 0)) ≡ false) where
-  pub other-value : valueB byte ≡ byte - 32
-  other-value = rw (ne-eqb byte separator not-separator)
-
   pub other-in-b : fromB (byte ∷ rest) ≡ valueB byte ∷ fromB rest
   other-in-b = from-b byte rest none (begins-none byte rest not-separator not-pair)
 

@@ -14,8 +14,8 @@ use Rattle.code_sets.specs.declared.sets.Set.the-variants.{A as setA, B as setB
 use Rattle.code_sets.specs.declared.sets.Meaning.the-variants.{Byte as byte, Pair as pair, Change as change, Separator as separator}
 use Rattle.code_sets.specs.Spelling.{Spells, ended, a-byte, a-pair, a-shift, a-change, a-separator, OnlyBC, SpellsBC}
 use Rattle.code_sets.specs.Reading.{startSet}
-use Rattle.spelling.specs.Best.{comesFirst, better, valueB, bests, bestSpelling, fromB, fromC}
-use Rattle.spelling.proofs.OrderLaws.{Precedes, first-means, better-cases, better-refl, better-trans, better-same-head}
+use Rattle.spelling.specs.Best.{comesFirst, Precedes, better, valueB, bests, bestSpelling, fromB, fromC}
+use Rattle.spelling.proofs.OrderLaws.{first-means, better-cases, better-refl, better-trans, better-same-head}
 use Rattle.code_sets.proofs.MeaningLaws.{Means, byte-of-a, byte-of-b, pair-of-c, a-to-c, b-to-c, a-to-b, c-to-b, b-to-a, c-to-a, separates, means}
 use Rattle.spelling.proofs.BestLaws.{pairOf, b-stays, b-changes, c-changes, c-separator, c-pair, best-in-b, best-in-c}
 use Rattle.spelling.proofs.Shortest.{bestFrom, digit-of}

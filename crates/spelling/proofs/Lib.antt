@@ -7,7 +7,7 @@
 --   First         none of B and C of its length comes before it
 --   ChoiceLaws    lengths and first values decide
 --   StateLaws     a state tells the truth of the text ahead
---   ForwardLaws   the state at a place decides the value there
+--   ForwardLaws   the state at a place decides the value there, and a spelling is written a value at a time
 pub mod OrderLaws
 pub mod BestLaws
 pub mod BestSpelled

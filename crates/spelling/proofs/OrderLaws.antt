@@ -10,11 +10,11 @@ use native.Mathlib.Omega.{arith}
 use lib.ListN.{length, take, getD}
 use lib.Dec.{eqb, ltb}
 use borrow.Author.Tests.{lt-ltb, le-ltb, eq-eqb, ne-eqb, ltb-true, ltb-false, eqb-true, eqb-false}
-use Rattle.spelling.specs.Best.{comesFirst, better, betterOf}
+use Rattle.spelling.specs.Best.{lessOr, comesFirst, Precedes, better, betterOf}
 
 -- what a test passes by: less, or equal and a further test
 module _ (x y : ℕ) (further : Bool) where
-  pub less-or-further : cond (ltb x y) true (cond (eqb x y) further false) ≡ true → (x < y) ⊎ ((x ≡ y) × (further ≡ true))
+  less-or-further : lessOr x y further ≡ true → (x < y) ⊎ ((x ≡ y) × (further ≡ true))
   less-or-further e = less (ltb x y) refl e
     where
       equal : (b : Bool) → eqb x y ≡ b → cond b further false ≡ true → (x < y) ⊎ ((x ≡ y) × (further ≡ true))
@@ -25,23 +25,32 @@ module _ (x y : ℕ) (further : Bool) where
       less true p e = inl (ltb-true x y p)
       less false p e = equal (eqb x y) refl e
 
-  pub by-less : x < y → cond (ltb x y) true (cond (eqb x y) further false) ≡ true
+  by-less : x < y → lessOr x y further ≡ true
   by-less h = rw (lt-ltb x y h)
 
-  pub by-further : x ≡ y → further ≡ true → cond (ltb x y) true (cond (eqb x y) further false) ≡ true
+  by-further : x ≡ y → further ≡ true → lessOr x y further ≡ true
   by-further h e = rw (le-ltb x y (omega arith), eq-eqb x y h, e)
 
-  -- what it fails by
-  pub more-or-fails : cond (ltb x y) true (cond (eqb x y) further false) ≡ false → (y < x) ⊎ ((x ≡ y) × (further ≡ false))
-  more-or-fails e = less (ltb x y) refl e
-    where
-      equal : (b : Bool) → y ≤ x → eqb x y ≡ b → cond b further false ≡ false → (y < x) ⊎ ((x ≡ y) × (further ≡ false))
-      equal true h p e = inr (eqb-true x y p, e)
-      equal false h p e = inl (omega (arith, eqb-false x y p))
+-- of two the one or the other comes first, whatever decides where they are equal
+less-total : (x y : ℕ) (further back : Bool) → lessOr x y further ≡ false → (further ≡ false → back ≡ true) → lessOr y x back ≡ true
+less-total x y further back e rest = less (ltb x y) refl e
+  where
+    equal : (b : Bool) → y ≤ x → eqb x y ≡ b → cond b further false ≡ false → lessOr y x back ≡ true
+    equal true h p e = by-further y x back (sym (eqb-true x y p)) (rest e)
+    equal false h p e = by-less y x back (omega (arith, eqb-false x y p))
 
-      less : (b : Bool) → ltb x y ≡ b → cond b true (cond (eqb x y) further false) ≡ false → (y < x) ⊎ ((x ≡ y) × (further ≡ false))
-      less true p e = absurd (let z : _≡_ {A = ℕ} 0 1 = cc in omega arith)
-      less false p e = equal (eqb x y) (ltb-false x y p) refl e
+    less : (b : Bool) → ltb x y ≡ b → cond b true (cond (eqb x y) further false) ≡ false → lessOr y x back ≡ true
+    less true p e = absurd (let z : _≡_ {A = ℕ} 0 1 = cc in omega arith)
+    less false p e = equal (eqb x y) (ltb-false x y p) refl e
+
+less-trans : (x y z : ℕ) (one two three : Bool) → lessOr x y one ≡ true → lessOr y z two ≡ true → (one ≡ true → two ≡ true → three ≡ true) → lessOr x z three ≡ true
+less-trans x y z one two three e d rest = go (less-or-further x y one e) (less-or-further y z two d)
+  where
+    go : (x < y) ⊎ ((x ≡ y) × (one ≡ true)) → (y < z) ⊎ ((y ≡ z) × (two ≡ true)) → lessOr x z three ≡ true
+    go (inl h) (inl k) = by-less x z three (omega arith)
+    go (inl h) (inr k) = by-less x z three (omega (arith, k .0))
+    go (inr h) (inl k) = by-less x z three (omega (arith, h .0))
+    go (inr h) (inr k) = by-further x z three (omega (arith, h .0, k .0)) (rest (h .1) (k .1))
 
 pub first-by-less : (x y : ℕ) (xs ys : List ℕ) → x < y → comesFirst (x ∷ xs) (y ∷ ys) ≡ true
 unfolding comesFirst
@@ -60,32 +69,14 @@ pub first-total : (xs ys : List ℕ) → comesFirst xs ys ≡ false → comesFir
 unfolding comesFirst
 first-total [] ys e = absurd (let z : _≡_ {A = ℕ} 0 1 = cc in omega arith)
 first-total (x ∷ xs) [] e = refl
-first-total (x ∷ xs) (y ∷ ys) e = go (more-or-fails x y (comesFirst xs ys) e) (first-total xs ys)
-  where
-    go : (y < x) ⊎ ((x ≡ y) × (comesFirst xs ys ≡ false)) → (comesFirst xs ys ≡ false → comesFirst ys xs ≡ true) → comesFirst (y ∷ ys) (x ∷ xs) ≡ true
-    go (inl h) rest = by-less y x (comesFirst ys xs) h
-    go (inr h) rest = by-further y x (comesFirst ys xs) (sym (h .0)) (rest (h .1))
+first-total (x ∷ xs) (y ∷ ys) e = less-total x y (comesFirst xs ys) (comesFirst ys xs) e (first-total xs ys)
 
 pub first-trans : (xs ys zs : List ℕ) → comesFirst xs ys ≡ true → comesFirst ys zs ≡ true → comesFirst xs zs ≡ true
 unfolding comesFirst
 first-trans [] ys zs e d = refl
 first-trans (x ∷ xs) [] zs e d = absurd (let z : _≡_ {A = ℕ} 0 1 = cc in omega arith)
 first-trans (x ∷ xs) (y ∷ ys) [] e d = absurd (let z : _≡_ {A = ℕ} 0 1 = cc in omega arith)
-first-trans (x ∷ xs) (y ∷ ys) (z ∷ zs) e d =
-    go (less-or-further x y (comesFirst xs ys) e) (less-or-further y z (comesFirst ys zs) d) (first-trans xs ys zs)
-  where
-    go : (x < y) ⊎ ((x ≡ y) × (comesFirst xs ys ≡ true)) → (y < z) ⊎ ((y ≡ z) × (comesFirst ys zs ≡ true)) → (comesFirst xs ys ≡ true → comesFirst ys zs ≡ true → comesFirst xs zs ≡ true) → comesFirst (x ∷ xs) (z ∷ zs) ≡ true
-    go (inl h) (inl k) rest = by-less x z (comesFirst xs zs) (omega arith)
-    go (inl h) (inr k) rest = by-less x z (comesFirst xs zs) (omega (arith, k .0))
-    go (inr h) (inl k) rest = by-less x z (comesFirst xs zs) (omega (arith, h .0))
-    go (inr h) (inr k) rest = by-further x z (comesFirst xs zs) (omega (arith, h .0, k .0)) (rest (h .1) (k .1))
-
--- at the first place where two lists differ, the one has the smaller value
-pub record Precedes (xs ys : List ℕ) : Type 0 where
-  pub place : ℕ
-  pub within : place < length xs
-  pub before : take place xs ≡ take place ys
-  pub smaller : getD xs place 0 < getD ys place 0
+first-trans (x ∷ xs) (y ∷ ys) (z ∷ zs) e d = less-trans x y z (comesFirst xs ys) (comesFirst ys zs) (comesFirst xs zs) e d (first-trans xs ys zs)
 
 means-precedes : (xs ys : List ℕ) → length xs ≡ length ys → comesFirst xs ys ≡ true → (xs ≡ ys) ⊎ Precedes xs ys
 unfolding comesFirst
@@ -148,20 +139,11 @@ better-refl xs = better-first xs xs refl (first-refl xs)
 
 pub better-total : (xs ys : List ℕ) → better xs ys ≡ false → better ys xs ≡ true
 unfolding better
-better-total xs ys e = go (more-or-fails (length xs) (length ys) (comesFirst xs ys) e)
-  where
-    go : (length ys < length xs) ⊎ ((length xs ≡ length ys) × (comesFirst xs ys ≡ false)) → better ys xs ≡ true
-    go (inl h) = better-fewer ys xs h
-    go (inr h) = better-first ys xs (sym (h .0)) (first-total xs ys (h .1))
+better-total xs ys e = less-total (length xs) (length ys) (comesFirst xs ys) (comesFirst ys xs) e (first-total xs ys)
 
 pub better-trans : (xs ys zs : List ℕ) → better xs ys ≡ true → better ys zs ≡ true → better xs zs ≡ true
-better-trans xs ys zs e d = go (better-cases xs ys e) (better-cases ys zs d)
-  where
-    go : (length xs < length ys) ⊎ ((length xs ≡ length ys) × (comesFirst xs ys ≡ true)) → (length ys < length zs) ⊎ ((length ys ≡ length zs) × (comesFirst ys zs ≡ true)) → better xs zs ≡ true
-    go (inl h) (inl k) = better-fewer xs zs (omega arith)
-    go (inl h) (inr k) = better-fewer xs zs (omega (arith, k .0))
-    go (inr h) (inl k) = better-fewer xs zs (omega (arith, h .0))
-    go (inr h) (inr k) = better-first xs zs (omega (arith, h .0, k .0)) (first-trans xs ys zs (h .1) (k .1))
+unfolding better
+better-trans xs ys zs e d = less-trans (length xs) (length ys) (length zs) (comesFirst xs ys) (comesFirst ys zs) (comesFirst xs zs) e d (first-trans xs ys zs)
 
 pub better-same-head : (x : ℕ) (xs ys : List ℕ) → better xs ys ≡ true → better (x ∷ xs) (x ∷ ys) ≡ true
 better-same-head x xs ys e = go (better-cases xs ys e)

@@ -62,12 +62,32 @@ pub data InC : ℕ → List ℕ → Type 0 where
   parts : {rest : List ℕ} → fromC (separator ∷ rest) ≡ 102 ∷ fromC rest → InC separator rest
   pairs : {a b : ℕ} {rest : List ℕ} → isDigit a ≡ true → isDigit b ≡ true → fromC (a ∷ b ∷ rest) ≡ pairOf a b ∷ fromC rest → InC a (b ∷ rest)
 
--- where a byte stands before its rest: what is best from B, and from C
-pub record Goes (way byte : ℕ) (rest : List ℕ) : Type 0 where
-  pub in-b : way ≤ 1 → fromB (byte ∷ rest) ≡ valueB byte ∷ fromB rest
-  pub to-c : 2 ≤ way → fromB (byte ∷ rest) ≡ 99 ∷ fromC (byte ∷ rest)
-  pub to-b : way ≤ 0 → fromC (byte ∷ rest) ≡ 100 ∷ fromB (byte ∷ rest)
-  pub in-c : 1 ≤ way → InC byte rest
+-- where a byte stands before its rest: whether set B, the set that is on, or set C spells it
+pub data Goes : ℕ → ℕ → List ℕ → Type 0 where
+  only-b : {byte : ℕ} {rest : List ℕ} → fromB (byte ∷ rest) ≡ valueB byte ∷ fromB rest → fromC (byte ∷ rest) ≡ 100 ∷ valueB byte ∷ fromB rest → Goes 0 byte rest
+  either : {byte : ℕ} {rest : List ℕ} → fromB (byte ∷ rest) ≡ valueB byte ∷ fromB rest → InC byte rest → Goes 1 byte rest
+  only-c : {byte : ℕ} {rest : List ℕ} → fromB (byte ∷ rest) ≡ 99 ∷ fromC (byte ∷ rest) → InC byte rest → Goes 2 byte rest
+
+module _ {byte : ℕ} {rest : List ℕ} where
+  pub goes-in-b : {way : ℕ} → Goes way byte rest → way ≤ 1 → fromB (byte ∷ rest) ≡ valueB byte ∷ fromB rest
+  goes-in-b (only-b b c) h = b
+  goes-in-b (either b c) h = b
+  goes-in-b (only-c b c) h = absurd (omega arith)
+
+  pub goes-to-c : {way : ℕ} → Goes way byte rest → 2 ≤ way → fromB (byte ∷ rest) ≡ 99 ∷ fromC (byte ∷ rest)
+  goes-to-c (only-b b c) h = absurd (omega arith)
+  goes-to-c (either b c) h = absurd (omega arith)
+  goes-to-c (only-c b c) h = b
+
+  pub goes-to-b : {way : ℕ} → Goes way byte rest → way ≤ 0 → fromC (byte ∷ rest) ≡ 100 ∷ fromB (byte ∷ rest)
+  goes-to-b (only-b b c) h = rw b c
+  goes-to-b (either b c) h = absurd (omega arith)
+  goes-to-b (only-c b c) h = absurd (omega arith)
+
+  pub goes-in-c : {way : ℕ} → Goes way byte rest → 1 ≤ way → InC byte rest
+  goes-in-c (only-b b c) h = absurd (omega arith)
+  goes-in-c (either b c) h = c
+  goes-in-c (only-c b c) h = c
 
 -- what a state says of the text ahead
 pub record Ahead (s : ℕ) (text : List ℕ) : Type 0 where
@@ -101,47 +121,27 @@ module _ (rest : List ℕ) (s : ℕ) (a : Ahead s rest) where
 
       go : (t : Bool) → ltb (leadOf s) 1 ≡ t → (u : Bool) → ltb 1 (leadOf s) ≡ u → Told (getD atSeparator s 0) separator rest
       go true e u f =
-          let none : leadOf s < 1 = ltb-true (leadOf s) 1 e in
+          let none : leadOf s ≡ 0 = omega (arith, ltb-true (leadOf s) 1 e) in
           let in-b = separator-in-b rest (omega (arith, a .lead)) in
           let to-b = separator-to-b rest (omega (arith, a .lead)) in
           told (omega (arith, ap length in-b)) (omega (arith, ap length to-b, a .lead))
-          (record {
-            in-b = λ h. in-b;
-            to-c = λ h. absurd (omega arith);
-            to-b = λ h. to-b ∙ ap (λ (values : List ℕ). 100 ∷ values) (sym in-b);
-            in-c = λ h. absurd (omega arith);
-          })
+          (rw none (only-b in-b to-b))
       go false e true f =
           let two : leadOf s ≡ 2 = omega (arith, ltb-true 1 (leadOf s) f, lead-most s within) in
           let to-c = separator-to-c rest (omega (arith, a .lead)) in
           let in-c = separator-in-c rest (omega (arith, a .lead)) in
           told (omega (arith, ap length to-c, a .lead)) (omega (arith, ap length in-c))
-          (record {
-            in-b = λ h. absurd (omega arith);
-            to-c = λ h. to-c ∙ ap (λ (values : List ℕ). 99 ∷ values) (sym in-c);
-            to-b = λ h. absurd (omega arith);
-            in-c = λ h. parts in-c;
-          })
+          (rw two (only-c (to-c ∙ ap (λ (values : List ℕ). 99 ∷ values) (sym in-c)) (parts in-c)))
       go false e false f =
           let one : leadOf s ≡ 1 = omega (arith, ltb-false (leadOf s) 1 e, ltb-false 1 (leadOf s) f) in
           let in-b = separator-in-b rest (omega (arith, a .lead)) in
           let in-c = separator-in-c rest (omega (arith, a .lead)) in
           told (omega (arith, ap length in-b)) (omega (arith, ap length in-c))
-          (record {
-            in-b = λ h. in-b;
-            to-c = λ h. absurd (omega arith);
-            to-b = λ h. absurd (omega arith);
-            in-c = λ h. parts in-c;
-          })
+          (rw one (either in-b (parts in-c)))
 
 -- a byte that set C has not
 lone-goes : (byte : ℕ) (rest : List ℕ) → (byte ≡ separator → ⊥) → (isDigit byte && isDigit (getD rest 0 0)) ≡ false → Goes 0 byte rest
-lone-goes byte rest other alone = record {
-  in-b = λ h. other-in-b byte rest other alone;
-  to-c = λ h. absurd (omega arith);
-  to-b = λ h. other-in-c byte rest other alone ∙ ap (λ (values : List ℕ). 100 ∷ values) (sym (other-in-b byte rest other alone));
-  in-c = λ h. absurd (omega arith);
-}
+lone-goes byte rest other alone = only-b (other-in-b byte rest other alone) (other-in-c byte rest other alone)
 
 module _ (byte : ℕ) (is : isDigit byte ≡ true) where
   not-separator : byte ≡ separator → ⊥
@@ -194,12 +194,7 @@ module _ (byte : ℕ) (is : isDigit byte ≡ true) where
           let c = ap length in-c in
           told-by-numbers (next ∷ rest) s within 2 2 1 (rw (zero, f) at (digit-way s within)) (rw (zero, f) at (digit-lead s within))
           (rw f at (digit-reach s within)) (omega arith) (omega arith) (omega (arith, a .lead))
-          (record {
-            in-b = λ h. absurd (omega arith);
-            to-c = λ h. to-c ∙ ap (λ (values : List ℕ). 99 ∷ values) (sym in-c);
-            to-b = λ h. absurd (omega arith);
-            in-c = λ h. pairs is two in-c;
-          })
+          (only-c (to-c ∙ ap (λ (values : List ℕ). 99 ∷ values) (sym in-c)) (pairs is two in-c))
       go false f =
           let near : reachOf s ≤ 3 = omega (arith, eqb-false (reachOf s) 4 f, reach-most s within) in
           let far = a .reach h in
@@ -208,12 +203,7 @@ module _ (byte : ℕ) (is : isDigit byte ≡ true) where
           let c = ap length in-c in
           told-by-numbers (next ∷ rest) s within 1 (reachOf s - 1) 2 (rw (zero, f) at (digit-way s within)) (rw (zero, f) at (digit-lead s within))
           (rw f at (digit-reach s within)) (omega arith) (omega arith) (omega (arith, a .lead))
-          (record {
-            in-b = λ h. in-b;
-            to-c = λ h. absurd (omega arith);
-            to-b = λ h. absurd (omega arith);
-            in-c = λ h. pairs is two in-c;
-          })
+          (either in-b (pairs is two in-c))
 
   told-at-digit : (rest : List ℕ) (s : ℕ) → Ahead s rest → Told (getD atDigit s 0) byte rest
   told-at-digit rest s a = go (ltb 0 (reachOf s)) refl

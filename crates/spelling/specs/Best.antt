@@ -2,24 +2,36 @@
 -- only B and C, compare the values from the start on; at the first difference the smaller value wins." Set A and shifts never make a
 -- spelling shorter, so B and C are all that is looked at. What is best from B and what is best from C come together, from the end of the
 -- message on.
-use Prim.Native.Nat.{ℕ, _+_, _-_, _*_}
+use Prim.Native.Nat.{ℕ, _+_, _-_, _*_, _<_}
+use mathlib.Core.Path.{_≡_}
 use mathlib.Core.Bool.{Bool, true, false, cond, _&&_}
 use mathlib.Core.List.{List, [], _∷_}
 use mathlib.Core.Option.{Option, some, none}
-use lib.ListN.{length}
+use lib.ListN.{length, getD, take}
 use lib.Dec.{eqb, ltb}
 use Rattle.digits.specs.Digit.{isDigit, valueOf}
 use Rattle.character_set_82.specs.Characters.{separator}
+
+-- less, or equal and a further test passes
+abbrev pub lessOr : ℕ → ℕ → Bool → Bool
+lessOr x y further = cond (ltb x y) true (cond (eqb x y) further false)
 
 -- the smaller value at the first difference, for lists of one length
 unfoldable pub comesFirst : List ℕ → List ℕ → Bool
 comesFirst [] ys = true
 comesFirst (x ∷ xs) [] = false
-comesFirst (x ∷ xs) (y ∷ ys) = cond (ltb x y) true (cond (eqb x y) (comesFirst xs ys) false)
+comesFirst (x ∷ xs) (y ∷ ys) = lessOr x y (comesFirst xs ys)
+
+-- at the first place where two lists differ, the one has the smaller value
+pub record Precedes (xs ys : List ℕ) : Type 0 where
+  pub place : ℕ
+  pub within : place < length xs
+  pub before : take place xs ≡ take place ys
+  pub smaller : getD xs place 0 < getD ys place 0
 
 -- fewer characters, or as many and first
 unfoldable pub better : List ℕ → List ℕ → Bool
-better xs ys = cond (ltb (length xs) (length ys)) true (cond (eqb (length xs) (length ys)) (comesFirst xs ys) false)
+better xs ys = lessOr (length xs) (length ys) (comesFirst xs ys)
 
 abbrev pub betterOf : List ℕ → List ℕ → List ℕ
 betterOf xs ys = cond (better xs ys) xs ys

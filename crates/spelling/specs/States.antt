@@ -1,15 +1,14 @@
 -- How the best spelling is found: from the end of the message on, a state at each place tells all that matters of the text ahead, which is
 -- by how much what is best from B is longer than what is best from C; and it tells in which set the byte at the place is spelled.
-use Prim.Native.Nat.{ℕ, _+_, _≤_, _<_}
+use Prim.Native.Nat.{ℕ, _≤_, _<_}
 use mathlib.Core.Path.{_≡_}
 use mathlib.Core.Bool.{Bool, cond}
-use mathlib.Core.List.{List, [], _∷_, _++_}
-use lib.ListN.{length, getD, take, drop}
+use mathlib.Core.List.{List, [], _∷_}
+use lib.ListN.{length, getD, drop}
 use lib.Dec.{eqb, ltb}
 use Rattle.digits.specs.Digit.{isDigit}
 use Rattle.character_set_82.specs.Characters.{separator}
 use Rattle.spelling.specs.declared.Step.{Step}
-use Rattle.spelling.specs.declared.Place.{Place}
 use Rattle.spelling.specs.Best.{fromB, fromC}
 
 -- from set C where that is on, else from set B
@@ -51,22 +50,7 @@ startsInC state = eqb (getD atSeparator state 0) 12
 abbrev pub StatesOf : List ℕ → List ℕ → Type 0
 StatesOf message states = (k : ℕ) → k < length message → getD states k 0 ≡ stateOf (drop k message)
 
--- one value of what is best from set C, and the place from which it goes on
-pub record StepsInC (message : List ℕ) (at : ℕ) (step : Step) : Type 0 where
-  pub best : fromC (drop at message) ≡ step .value ∷ fromC (drop (step .next) message)
-  pub later : at < step .next
-  pub near : step .next ≤ at + 2
+-- one value of what is best from the set that is on, and how it goes on
+pub record Steps (message : List ℕ) (c : Bool) (at : ℕ) (step : Step) : Type 0 where
+  pub best : from c (drop at message) ≡ step .value ∷ from (step .c) (drop (step .next) message)
   pub within : step .next ≤ length message
-
--- n values of a spelling, and after them what a list held before; what is left of the spelling is what is best from set and place
-pub record Written (best before message : List ℕ) (c : Bool) (at n : ℕ) (values : List ℕ) : Type 0 where
-  pub room : length best ≤ length before
-  pub few : n ≤ length best
-  pub left : drop n best ≡ from c (drop at message)
-  pub lent : values ≡ take n best ++ drop n before
-
--- a run of values in one set goes on with any spelling that has come so far
-pub record Runs (message : List ℕ) (c : Bool) (at n : ℕ) (values : List ℕ) (place : Place) (after : List ℕ) : Type 0 where
-  pub within : place .at ≤ length message
-  pub more : n < place .count
-  pub writes : (best before : List ℕ) → Written best before message c at n values → Written best before message (place .c) (place .at) (place .count) after

@@ -3,12 +3,12 @@
 ghost use mathlib.Core.Path.{_≡_};
 ghost use mathlib.Core.Bool.{true, false, cond};
 ghost use mathlib.Core.List.{_++_};
-ghost use Prim.Native.Nat.{_+_, _≤_, _<_};
+ghost use Prim.Native.Nat.{_≤_, _<_};
 ghost use lib.ListN.{length, drop};
 ghost use Rattle.laws.specs.First.{firstNot};
 ghost use Rattle.character_set_82.specs.Characters.{isMessageByte};
-ghost use Rattle.spelling.specs.Best.{valueB, fromB, fromC, bestSpelling};
-ghost use Rattle.spelling.specs.States.{from, stateAt, stateOf, startsInC, StatesOf, StepsInC, Runs};
+ghost use Rattle.spelling.specs.Best.{bestSpelling};
+ghost use Rattle.spelling.specs.States.{stateAt, stateOf, startsInC, StatesOf, Steps};
 use character_set_82::SEPARATOR;
 
 const FNC1: u8 = 102;
@@ -26,33 +26,35 @@ const AT_DIGIT: [u8; 16] = [1, 5, 6, 13, 2, 7, 10, 8, 11, 13, 14, 15, 3, 9, 10, 
 
 const AT_SEPARATOR: [u8; 16] = [0, 0, 0, 0, 4, 4, 12, 4, 12, 0, 4, 12, 12, 12, 12, 12];
 
-// One value of set C, and the place after what it spells.
+// One value, and how the spelling goes on: the place in the message, and whether set C is on.
 struct Step {
     value: u8,
     next: usize,
-}
-
-// How far a spelling has come: the place in the message, the count of values written, and whether set C is on.
-struct Place {
-    at: usize,
-    count: usize,
     c: bool,
 }
 
-// Writes the best spelling, from the start on: the count of its values.
+// Writes the best spelling, a value at a time from the start on: the count of its values.
 pub fn spell(message: &[u8], values: &mut [u8]) -> usize
     requires { ⌜ length (now message) ≤ 48 ⌝ }
     requires { ⌜ firstNot isMessageByte (now message) ≡ length (now message) ⌝ }
-    requires { ⌜ length (now values) ≡ 50 ⌝ }
+    requires { ⌜ 50 ≤ length (now values) ⌝ }
     ensures { λ r. ⌜ r ≡ length (bestSpelling (now (message .entry))) ⌝ }
     ensures { λ r. ⌜ now (values .exit) ≡ bestSpelling (now (message .entry)) ++ drop r (now (values .entry)) ⌝ }
 {
     let mut states = [0u8; 48];
-    let first = plan(message, &mut states);
-    let c = starts_in_c(first);
+    let mut c = starts_in_c(plan(message, &mut states));
     values[0] = start_of(c);
     values[1] = FNC1;
-    2 + spell_from(message, &states, c, &mut values[2..50])
+    let mut n = 2;
+    let mut i = 0;
+    while i < message.len() {
+        let step = step_from(message, states[i], c, i);
+        values[n] = step.value;
+        n += 1;
+        i = step.next;
+        c = step.c;
+    }
+    n
 }
 
 fn starts_in_c(state: u8) -> bool
@@ -101,137 +103,72 @@ fn state_at(byte: u8, past: u8) -> u8
     IN_B
 }
 
-// Writes what is best from a set on, one run after the other.
-fn spell_from(message: &[u8], states: &[u8], start: bool, values: &mut [u8]) -> usize
-    requires { ⌜ length (now message) ≤ length (now states) ⌝ }
+// The value at a place, in the set that is on, by the state there.
+fn step_from(message: &[u8], state: u8, c: bool, at: usize) -> Step
+    requires { ⌜ at < length (now message) ⌝ }
     requires { ⌜ firstNot isMessageByte (now message) ≡ length (now message) ⌝ }
-    requires { ⌜ StatesOf (now message) (now states) ⌝ }
-    requires { ⌜ length (from start (now message)) ≤ length (now values) ⌝ }
-    ensures { λ r. ⌜ r ≡ length (from start (now (message .entry))) ⌝ }
-    ensures { λ r. ⌜ now (values .exit) ≡ from start (now (message .entry)) ++ drop r (now (values .entry)) ⌝ }
-{
-    let mut c = start;
-    let mut n = 0;
-    let mut i = 0;
-    while i < message.len() {
-        let place = run_from(message, states, c, i, values, n);
-        n = place.count;
-        i = place.at;
-        c = place.c;
-    }
-    n
-}
-
-// One run, in the set that is on.
-fn run_from(
-    message: &[u8],
-    states: &[u8],
-    c: bool,
-    begin: usize,
-    values: &mut [u8],
-    at: usize,
-) -> Place
-    requires { ⌜ begin < length (now message) ⌝ }
-    requires { ⌜ length (now message) ≤ length (now states) ⌝ }
-    requires { ⌜ firstNot isMessageByte (now message) ≡ length (now message) ⌝ }
-    requires { ⌜ StatesOf (now message) (now states) ⌝ }
-    requires { ⌜ at + length (from c (drop begin (now message))) ≤ length (now values) ⌝ }
-    ensures { λ r. ⌜ Runs (now (message .entry)) c begin at (now (values .entry)) r (now (values .exit)) ⌝ }
+    requires { ⌜ state ≡ stateOf (drop at (now message)) ⌝ }
+    ensures { λ r. ⌜ Steps (now (message .entry)) c at r ⌝ }
 {
     if c {
-        return run_c(message, states, begin, values, at);
+        return step_in_c(message, state, at);
     }
-    run_b(message, states, begin, values, at)
+    step_in_b(message, state, at)
 }
 
-// Writes values of set B up to the end, or to the change to C.
-fn run_b(message: &[u8], states: &[u8], begin: usize, values: &mut [u8], at: usize) -> Place
-    requires { ⌜ begin < length (now message) ⌝ }
-    requires { ⌜ length (now message) ≤ length (now states) ⌝ }
-    requires { ⌜ firstNot isMessageByte (now message) ≡ length (now message) ⌝ }
-    requires { ⌜ StatesOf (now message) (now states) ⌝ }
-    requires { ⌜ at + length (fromB (drop begin (now message))) ≤ length (now values) ⌝ }
-    ensures { λ r. ⌜ Runs (now (message .entry)) false begin at (now (values .entry)) r (now (values .exit)) ⌝ }
-{
-    let mut i = begin;
-    let mut n = at;
-    while i < message.len() {
-        if IN_C <= states[i] {
-            values[n] = 99;
-            return Place {
-                at: i,
-                count: n + 1,
-                c: true,
-            };
-        }
-        values[n] = value_in_b(message[i]);
-        n += 1;
-        i += 1;
-    }
-    Place {
-        at: i,
-        count: n,
-        c: false,
-    }
-}
-
-// Writes values of set C likewise.
-fn run_c(message: &[u8], states: &[u8], begin: usize, values: &mut [u8], at: usize) -> Place
-    requires { ⌜ begin < length (now message) ⌝ }
-    requires { ⌜ length (now message) ≤ length (now states) ⌝ }
-    requires { ⌜ StatesOf (now message) (now states) ⌝ }
-    requires { ⌜ at + length (fromC (drop begin (now message))) ≤ length (now values) ⌝ }
-    ensures { λ r. ⌜ Runs (now (message .entry)) true begin at (now (values .entry)) r (now (values .exit)) ⌝ }
-{
-    let mut i = begin;
-    let mut n = at;
-    while i < message.len() {
-        if states[i] < STAYS {
-            values[n] = 100;
-            return Place {
-                at: i,
-                count: n + 1,
-                c: false,
-            };
-        }
-        let step = next_in_c(message, i, states[i]);
-        values[n] = step.value;
-        n += 1;
-        i = step.next;
-    }
-    Place {
-        at: i,
-        count: n,
-        c: true,
-    }
-}
-
-fn value_in_b(byte: u8) -> u8
-    requires { ⌜ isMessageByte byte ≡ true ⌝ }
-    ensures { λ r. ⌜ r ≡ valueB byte ⌝ }
-{
-    if byte == SEPARATOR {
-        return FNC1;
-    }
-    byte - 32
-}
-
-// FNC1 or two digits.
-fn next_in_c(message: &[u8], at: usize, state: u8) -> Step
+// The change to C, or a byte's value.
+fn step_in_b(message: &[u8], state: u8, at: usize) -> Step
     requires { ⌜ at < length (now message) ⌝ }
+    requires { ⌜ firstNot isMessageByte (now message) ≡ length (now message) ⌝ }
     requires { ⌜ state ≡ stateOf (drop at (now message)) ⌝ }
-    requires { ⌜ 4 ≤ state ⌝ }
-    ensures { λ r. ⌜ StepsInC (now (message .entry)) at r ⌝ }
+    ensures { λ r. ⌜ Steps (now (message .entry)) false at r ⌝ }
 {
+    if IN_C <= state {
+        return Step {
+            value: 99,
+            next: at,
+            c: true,
+        };
+    }
     let byte = message[at];
     if byte == SEPARATOR {
         return Step {
             value: FNC1,
             next: at + 1,
+            c: false,
+        };
+    }
+    Step {
+        value: byte - 32,
+        next: at + 1,
+        c: false,
+    }
+}
+
+// The change to B, FNC1 or two digits.
+fn step_in_c(message: &[u8], state: u8, at: usize) -> Step
+    requires { ⌜ at < length (now message) ⌝ }
+    requires { ⌜ state ≡ stateOf (drop at (now message)) ⌝ }
+    ensures { λ r. ⌜ Steps (now (message .entry)) true at r ⌝ }
+{
+    if state < STAYS {
+        return Step {
+            value: 100,
+            next: at,
+            c: false,
+        };
+    }
+    let byte = message[at];
+    if byte == SEPARATOR {
+        return Step {
+            value: FNC1,
+            next: at + 1,
+            c: true,
         };
     }
     Step {
         value: 10 * (byte - b'0') + (message[at + 1] - b'0'),
         next: at + 2,
+        c: true,
     }
 }

@@ -4,33 +4,15 @@ use borrow.Author.Needs.{needs}
 use Rattle.code_sets.proofs.read_from.Statement.{statement}
 use Rattle.code_sets.proofs.read_from.Tie as tie
 
-read-a-requires : tie.Need-read-a-requires
-read-a-requires c κs = search needs
-
-read-b-requires : tie.Need-read-b-requires
-read-b-requires c κs = search needs
-
-read-c-requires : tie.Need-read-c-requires
-read-c-requires c κs = search needs
-
-same-length : tie.Need-same-length
-same-length c = search needs
-
 returns : tie.Need-returns
 returns c =
     let called = c .before .before .before .before in
     rw (called .match .keys1) (c .before .before .read-a .ensures)
 
-same-length-2 : tie.Need-same-length-2
-same-length-2 c = search needs
-
 returns-2 : tie.Need-returns-2
 returns-2 c =
     let called = c .before .before .before .before in
     rw (called .match .keys2) (c .before .before .read-b .ensures)
-
-same-length-3 : tie.Need-same-length-3
-same-length-3 c = search needs
 
 returns-3 : tie.Need-returns-3
 returns-3 c =
@@ -41,12 +23,12 @@ pub read-from-spec : {M : Type 1} → statement M
 read-from-spec =
     tie.close
     (tie.spec
-    read-a-requires
-    read-b-requires
-    read-c-requires
-    same-length
+    (λ c κs. search needs)
+    (λ c κs. search needs)
+    (λ c κs. search needs)
+    (λ c. search needs)
     returns
-    same-length-2
+    (λ c. search needs)
     returns-2
-    same-length-3
+    (λ c. search needs)
     returns-3)

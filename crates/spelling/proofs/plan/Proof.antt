@@ -32,20 +32,8 @@ abbrev μ-loop : tie.MeasureT-loop
 loop-holds : tie.Need-loop-holds Inv-loop μ-loop
 loop-holds c = (omega arith, refl, rw drop-length (sym state-of-nil), λ k h l. absurd (omega arith))
 
-sub-i : tie.Need-sub-i Inv-loop μ-loop
-sub-i c = omega arith
-
-shared-slice-read-state-at : tie.Need-shared-slice-read-state-at Inv-loop μ-loop
-shared-slice-read-state-at c = omega arith
-
 state-at-requires : tie.Need-state-at-requires Inv-loop μ-loop
 state-at-requires c κs = rw (c .before .before .loop .inv .2) (state-within _)
-
-slice-write-states : tie.Need-slice-write-states Inv-loop μ-loop
-slice-write-states c = omega arith
-
-loop-less : tie.Need-loop-less Inv-loop μ-loop
-loop-less c = omega arith
 
 loop-again : tie.Need-loop-again Inv-loop μ-loop
 loop-again c =
@@ -62,9 +50,6 @@ loop-again c =
       states-more message states i (c .state-at .result) (omega arith) here (λ k h. at .loop .inv .3 k (omega arith)),
     )
 
-same-length : tie.Need-same-length Inv-loop μ-loop
-same-length c = omega arith
-
 returns : tie.Need-returns Inv-loop μ-loop
 returns c =
     let none : c .before .loop .i ≡ 0 = omega arith in
@@ -77,11 +62,11 @@ plan-spec =
     Inv-loop
     μ-loop
     loop-holds
-    sub-i
-    shared-slice-read-state-at
+    (λ c. omega arith)
+    (λ c. omega arith)
     state-at-requires
-    slice-write-states
-    loop-less
+    (λ c. omega arith)
+    (λ c. omega arith)
     loop-again
-    same-length
+    (λ c. omega arith)
     returns)

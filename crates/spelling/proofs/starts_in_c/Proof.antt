@@ -5,12 +5,13 @@ use Rattle.spelling.specs.States.{startsInC}
 use Rattle.spelling.proofs.starts_in_c.Statement.{statement}
 use Rattle.spelling.proofs.starts_in_c.Tie as tie
 
-array-read-result : tie.Need-array-read-result
-array-read-result c = search needs
-
 returns : tie.Need-returns
 unfolding startsInC
 returns c = refl
 
 pub starts-in-c-spec : {M : Type 1} → statement M
-starts-in-c-spec = tie.close (tie.spec array-read-result returns)
+starts-in-c-spec =
+    tie.close
+    (tie.spec
+    (λ c. search needs)
+    returns)

@@ -8,20 +8,11 @@ use Rattle.spelling.specs.States.{stateAt}
 use Rattle.spelling.proofs.state_at.Statement.{statement}
 use Rattle.spelling.proofs.state_at.Tie as tie
 
-is-digit-requires : tie.Need-is-digit-requires
-is-digit-requires c κs = search needs
-
-array-read-result : tie.Need-array-read-result
-array-read-result c = search needs
-
 returns : tie.Need-returns
 unfolding stateAt
 returns c =
     let is : isDigit (c .before .before .args .byte) ≡ true = sym (c .before .is-digit .ensures) ∙ c .if1 .taken in
     rw is
-
-array-read-result-2 : tie.Need-array-read-result-2
-array-read-result-2 c = search needs
 
 returns-2 : tie.Need-returns-2
 unfolding stateAt
@@ -38,4 +29,10 @@ returns-3 c =
 pub state-at-spec : {M : Type 1} → statement M
 state-at-spec =
     tie.close
-    (tie.spec is-digit-requires array-read-result returns array-read-result-2 returns-2 returns-3)
+    (tie.spec
+    (λ c κs. search needs)
+    (λ c. search needs)
+    returns
+    (λ c. search needs)
+    returns-2
+    returns-3)

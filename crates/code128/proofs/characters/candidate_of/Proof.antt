@@ -7,15 +7,6 @@ use Rattle.code128.proofs.MatchingLaws.{candidate-below}
 use Rattle.code128.proofs.characters.candidate_of.Statement.{statement}
 use Rattle.code128.proofs.characters.candidate_of.Tie as tie
 
-eight-of-requires : tie.Need-eight-of-requires
-eight-of-requires c κs = search needs
-
-mul-result : tie.Need-mul-result
-mul-result c = search needs
-
-shr-result : tie.Need-shr-result
-shr-result c = search needs
-
 returns : tie.Need-returns
 returns c =
     let key = c .before .args .key in
@@ -23,4 +14,10 @@ returns c =
     (is, rw is (candidate-below key (omega arith)))
 
 pub candidate-of-spec : {M : Type 1} → statement M
-candidate-of-spec = tie.close (tie.spec eight-of-requires mul-result shr-result returns)
+candidate-of-spec =
+    tie.close
+    (tie.spec
+    (λ c κs. search needs)
+    (λ c. search needs)
+    (λ c. search needs)
+    returns)

@@ -22,41 +22,8 @@ six-copied ws to hw ht =
     )
     (copied-whole ws to 6 (omega arith) (omega arith))
 
-pattern-of-requires : tie.Need-pattern-of-requires
-pattern-of-requires c κs = search needs
-
-array-read-to : tie.Need-array-read-to
-array-read-to c = search needs
-
-slice-write-to : tie.Need-slice-write-to
-slice-write-to c = search needs
-
-array-read-to-2 : tie.Need-array-read-to-2
-array-read-to-2 c = search needs
-
-slice-write-to-2 : tie.Need-slice-write-to-2
-slice-write-to-2 c = search needs
-
-array-read-to-3 : tie.Need-array-read-to-3
-array-read-to-3 c = search needs
-
-slice-write-to-3 : tie.Need-slice-write-to-3
-slice-write-to-3 c = search needs
-
-array-read-to-4 : tie.Need-array-read-to-4
-array-read-to-4 c = search needs
-
-slice-write-to-4 : tie.Need-slice-write-to-4
-slice-write-to-4 c = search needs
-
-array-read-to-5 : tie.Need-array-read-to-5
-array-read-to-5 c = search needs
-
 slice-write-to-5 : tie.Need-slice-write-to-5
 slice-write-to-5 c = simp length-set (omega arith)
-
-array-read-to-6 : tie.Need-array-read-to-6
-array-read-to-6 c = search needs
 
 slice-write-to-6 : tie.Need-slice-write-to-6
 slice-write-to-6 c = simp length-set (omega arith)
@@ -74,18 +41,18 @@ pub put-pattern-spec : {M : Type 1} → statement M
 put-pattern-spec =
     tie.close
     (tie.spec
-    pattern-of-requires
-    array-read-to
-    slice-write-to
-    array-read-to-2
-    slice-write-to-2
-    array-read-to-3
-    slice-write-to-3
-    array-read-to-4
-    slice-write-to-4
-    array-read-to-5
+    (λ c κs. search needs)
+    (λ c. search needs)
+    (λ c. search needs)
+    (λ c. search needs)
+    (λ c. search needs)
+    (λ c. search needs)
+    (λ c. search needs)
+    (λ c. search needs)
+    (λ c. search needs)
+    (λ c. search needs)
     slice-write-to-5
-    array-read-to-6
+    (λ c. search needs)
     slice-write-to-6
     same-length
     returns)

@@ -82,9 +82,6 @@ loop-less c = omega (arith, went c .0, turn c .before .before .loop-test .taken)
 loop-again : tie.Need-loop-again Inv-loop μ-loop
 loop-again c = went c .1
 
-same-length-2 : tie.Need-same-length-2 Inv-loop μ-loop
-same-length-2 c = omega arith
-
 returns-2 : tie.Need-returns-2 Inv-loop μ-loop
 returns-2 c = record { reached = (c .loop-test .left, c .before .loop .inv) }
 
@@ -101,5 +98,5 @@ run-in-spec =
     returns
     loop-less
     loop-again
-    same-length-2
+    (λ c. omega arith)
     returns-2)

@@ -11,7 +11,7 @@ use Rattle.code_sets.specs.declared.readers.Run.{Run}
 use Rattle.code_sets.specs.declared.readers.Run.the-variants.{Stuck}
 use Rattle.code_sets.specs.Sets.{Set, Meaning, byte, pair, change, shift, separator, illegal}
 use Rattle.code_sets.specs.Reading.{Mode, in-set, shifted-from, Step, step, stuck, emitted, meant, stepIn}
-use Rattle.code_sets.specs.Readers.{Came, Runs, Puts}
+use Rattle.code_sets.specs.Readers.{Came, Runs, RunPuts}
 use Rattle.code_sets.proofs.ReaderLaws.{step-of, sticks, passes, turns, changes, then-runs}
 use Rattle.code_sets.proofs.readers.turn_in.Statement.{statement}
 use Rattle.code_sets.proofs.readers.turn_in.Tie as tie
@@ -51,7 +51,7 @@ module _ (c : tie.After-meaning-in) where
   stuck-at : StepIs stuck → Turns Stuck text
   stuck-at e = record { reached = sticks (in-set set) values i (start .pre .0) text (start .pre .1) n (start .pre .2) e }
 
-  puts : {legal : Bool} {bytes : List ℕ} {r : Run} {after : List ℕ} → Puts legal bytes (i + 1) n text r after → StepIs (emitted legal bytes (in-set set)) → Turns r after
+  puts : {legal : Bool} {bytes : List ℕ} {r : Run} {after : List ℕ} → RunPuts legal bytes (i + 1) n text r after → StepIs (emitted legal bytes (in-set set)) → Turns r after
   puts {legal} {bytes} {r} {after} p e =
       turns (in-set set) values i (start .pre .0) text (start .pre .1) n (start .pre .2) set legal bytes (i + 1) r after (omega arith) e p
 

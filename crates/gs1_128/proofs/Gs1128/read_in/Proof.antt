@@ -9,22 +9,10 @@ use Rattle.refusal.specs.declared.Answer.the-variants.{Refused}
 use Rattle.refusal.specs.Outcome.{made}
 use Rattle.refusal.proofs.FillsLaws.{refused-of-answer, fills-passed, fills-same}
 use Rattle.refusal.proofs.OwnLaws.{own-front}
-use Rattle.gs1_128.specs.Calls.{messageIn}
+use Rattle.gs1_128.specs.Rules.{messageIn}
 use Rattle.gs1_128.proofs.StageLaws.{reads-refused, reads-laying}
 use Rattle.gs1_128.proofs.Gs1128.read_in.Statement.{statement}
 use Rattle.gs1_128.proofs.Gs1128.read_in.Tie as tie
-
-message-in-requires : tie.Need-message-in-requires
-message-in-requires c κs = search needs
-
-enum-known-read : tie.Need-enum-known-read
-enum-known-read c = search needs
-
-enum-told : tie.Need-enum-told
-enum-told c = search needs
-
-same-length : tie.Need-same-length
-same-length c = search needs
 
 -- the answer of `message_in` is looked at
 module _ (c : tie.After-slice-known3) where
@@ -68,15 +56,6 @@ slice-reshare-prefix-lay c = front c .1
 slice-aggregate-lay : tie.Need-slice-aggregate-lay
 slice-aggregate-lay c = sym (length-take-le (count (c .before)) (own (c .before)) (front (c .before) .1))
 
-lay-requires : tie.Need-lay-requires
-lay-requires c κs = search needs
-
-same-length-2 : tie.Need-same-length-2
-same-length-2 c = search needs
-
-same-length-3 : tie.Need-same-length-3
-same-length-3 c = search needs
-
 -- where it is laid
 module _ (c : tie.After-lay) where
   abbrev told : tie.After-known-told
@@ -92,14 +71,14 @@ pub read-in-spec : {M : Type 1} → statement M
 read-in-spec =
     tie.close
     (tie.spec
-    message-in-requires
-    enum-known-read
-    enum-told
-    same-length
+    (λ c κs. search needs)
+    (λ c. search needs)
+    (λ c. search needs)
+    (λ c. search needs)
     returns
     slice-reshare-prefix-lay
     slice-aggregate-lay
-    lay-requires
-    same-length-2
-    same-length-3
+    (λ c κs. search needs)
+    (λ c. search needs)
+    (λ c. search needs)
     returns-2)

@@ -21,15 +21,6 @@ use Rattle.gs1_128.proofs.WrittenLaws.{write-refused, write-made, chara
 use Rattle.gs1_128.proofs.Gs1128.write.Statement.{statement}
 use Rattle.gs1_128.proofs.Gs1128.write.Tie as tie
 
-test-requires : tie.Need-test-requires
-test-requires c κs = search needs
-
-enum-told : tie.Need-enum-told
-enum-told c = search needs
-
-enum-told-2 : tie.Need-enum-told-2
-enum-told-2 c = search needs
-
 -- what the call was lent
 module _ (c : tie.After-test) where
   abbrev lent : tie.Start
@@ -60,9 +51,6 @@ module _ (c : tie.After-enum-told) where
   accepted : Accepted message (passed .0)
   accepted = tested-made message (passed .0) (passed .1)
 
-slice-aggregate-characters-of : tie.Need-slice-aggregate-characters-of
-slice-aggregate-characters-of c = search needs
-
 characters-of-requires : tie.Need-characters-of-requires
 characters-of-requires c κs = let a = accepted (c .before) in (a .most, (a .bytes, refl))
 
@@ -78,12 +66,6 @@ module _ (c : tie.After-characters-of) where
   front =
       let all : c .characters-of .result - 0 ≡ c .characters-of .result = omega arith in
       ap (λ (n : ℕ). take n (c .characters-of .last .1 .0)) all ∙ c .characters-of .ensures .1
-
-sub-draw : tie.Need-sub-draw
-sub-draw c = search needs
-
-part-draw-start : tie.Need-part-draw-start
-part-draw-start c = search needs
 
 part-draw-end : tie.Need-part-draw-end
 part-draw-end c =
@@ -102,9 +84,6 @@ draw-requires c κs =
     let told = told made-them in
     rw (front made-them) (characters-are-few (message told) (accepted told), characters-have-patterns (message told) (accepted told))
 
-same-length : tie.Need-same-length
-same-length c = search needs
-
 returns-2 : tie.Need-returns-2
 returns-2 c =
     let draw = c .before .before in
@@ -120,15 +99,15 @@ pub write-spec : {M : Type 1} → statement M
 write-spec =
     tie.close
     (tie.spec
-    test-requires
-    enum-told
-    enum-told-2
+    (λ c κs. search needs)
+    (λ c. search needs)
+    (λ c. search needs)
     returns
-    slice-aggregate-characters-of
+    (λ c. search needs)
     characters-of-requires
-    sub-draw
-    part-draw-start
+    (λ c. search needs)
+    (λ c. search needs)
     part-draw-end
     draw-requires
-    same-length
+    (λ c. search needs)
     returns-2)

@@ -2,9 +2,9 @@
 -- is that of the start and the rest of it, and goes to the place after it.
 use Prim.Native.Nat.{ℕ, suc, _+_, _-_, _≤_}
 use mathlib.Core.Path.{_≡_, sym, ap, _∙_}
-use mathlib.Core.List.{List, _∷_, _++_, append-assoc}
+use mathlib.Core.List.{List, _∷_, _++_}
 use native.Mathlib.Omega.{arith}
-use lib.ListN.{length, getD, set, take, drop, length-append, length-take, length-drop}
+use lib.ListN.{length, getD, set, take, drop}
 use borrow.Author.Needs.{needs}
 use Rattle.spelling.specs.Best.{bestSpelling}
 use Rattle.code128.specs.Check.{checkOf}
@@ -17,21 +17,6 @@ use Rattle.gs1_128.proofs.WithCheckLaws.{first-is, values-are, length-c
 use Rattle.gs1_128.proofs.drawing.characters_of.Statement.{statement}
 use Rattle.gs1_128.proofs.drawing.characters_of.Tie as tie
 
-sub-spell : tie.Need-sub-spell
-sub-spell c = search needs
-
-part-spell-start : tie.Need-part-spell-start
-part-spell-start c = search needs
-
-part-spell-end : tie.Need-part-spell-end
-part-spell-end c = search needs
-
-spell-requires : tie.Need-spell-requires
-spell-requires c κs = search needs
-
-slice-read-check-of : tie.Need-slice-read-check-of
-slice-read-check-of c = search needs
-
 -- where the spelling stands at the front
 module _ (c : tie.After-slice-known3) where
   abbrev spelling : tie.After-spell
@@ -43,26 +28,20 @@ module _ (c : tie.After-slice-known3) where
   abbrev message : List ℕ
   message = lent .args .message .now
 
-  abbrev before-it : List ℕ
-  before-it = lent .args .characters .now
-
   abbrev count : ℕ
   count = spelling .spell .result
 
   abbrev list : List ℕ
-  list = spelling .spell .last .1 .0 ++ drop 50 before-it
+  list = spelling .spell .last .1 .0
 
   spelled : Spelled (bestSpelling message) message
   spelled = best-is-spelled message (lent .pre .1 .0)
 
   abbrev behind : List ℕ
-  behind = drop count (take 50 before-it) ++ drop 50 before-it
+  behind = drop count (lent .args .characters .now)
 
   is : list ≡ (spelled .start ∷ 102 ∷ spelled .values) ++ behind
-  is =
-      ap (λ (l : List ℕ). l ++ drop 50 before-it) (spelling .spell .ensures .1)
-      ∙ append-assoc (bestSpelling message) (drop count (take 50 before-it)) (drop 50 before-it)
-      ∙ ap (λ (l : List ℕ). l ++ behind) (spelled .is)
+  is = spelling .spell .ensures .1 ∙ ap (λ (l : List ℕ). l ++ behind) (spelled .is)
 
   counts : count ≡ suc (length (102 ∷ spelled .values))
   counts = spelling .spell .ensures .0 ∙ ap length (spelled .is)
@@ -71,9 +50,7 @@ module _ (c : tie.After-slice-known3) where
   few = omega (arith, spelling .spell .ensures .0, best-short message, lent .pre .0)
 
   long : length list ≡ 51
-  long =
-      let kept = spelling .spell .kept .1 .0 in
-      simp (length-append, length-drop) (omega (arith, simp (length-take, length-drop) at kept, lent .pre .1 .1))
+  long = spelling .spell .kept .1 .0 ∙ lent .pre .1 .1
 
   start-is : getD list 0 0 ≡ spelled .start
   start-is = first-is list (spelled .start) (102 ∷ spelled .values) behind is count counts
@@ -117,9 +94,6 @@ slice-write-characters c = omega (arith, few (c .before .before .before), long (
 add-result : tie.Need-add-result
 add-result c = omega (arith, few (c .before .before .before))
 
-same-length : tie.Need-same-length
-same-length c = search needs
-
 returns : tie.Need-returns
 returns c = let at = c .before .before .before in (sym (length-is at), added at (c .check-of .result) (c .check-of .ensures))
 
@@ -127,11 +101,8 @@ pub characters-of-spec : {M : Type 1} → statement M
 characters-of-spec =
     tie.close
     (tie.spec
-    sub-spell
-    part-spell-start
-    part-spell-end
-    spell-requires
-    slice-read-check-of
+    (λ c κs. search needs)
+    (λ c. search needs)
     cast-check-of
     sub-check-of
     part-check-of-start
@@ -140,5 +111,5 @@ characters-of-spec =
     cast-characters
     slice-write-characters
     add-result
-    same-length
+    (λ c. search needs)
     returns)

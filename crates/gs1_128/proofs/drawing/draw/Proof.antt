@@ -12,7 +12,7 @@ use Rattle.refusal.specs.Outcome.{made}
 use Rattle.refusal.proofs.FillsLaws.{fills-refused, fills-same, laying-made, laying-refused}
 use Rattle.patterns.specs.Patterns.{drawn}
 use Rattle.code128.specs.Characters.{patterns, stop}
-use Rattle.gs1_128.proofs.DrawnLaws.{length-drawn, length-stopped, filled}
+use Rattle.gs1_128.proofs.DrawnLaws.{length-drawn, length-stopped, stop-filled}
 use Rattle.gs1_128.proofs.drawing.draw.Statement.{statement}
 use Rattle.gs1_128.proofs.drawing.draw.Tie as tie
 
@@ -27,49 +27,16 @@ module _ (c : tie.After-slice-known) where
   abbrev widths : List ℕ
   widths = lent .args .widths .now
 
-mul-end : tie.Need-mul-end
-mul-end c = search needs
-
-add-count : tie.Need-add-count
-add-count c = search needs
-
 returns : tie.Need-returns
 returns c =
     let at = c .before in
     fills-refused _ Room _
     (laying-refused (drawn patterns (characters at) ++ stop) (length (widths at)) (omega (arith, length-stopped (characters at) (lent at .pre .1))))
 
-sub-draw-characters : tie.Need-sub-draw-characters
-sub-draw-characters c = search needs
-
-part-draw-characters-start : tie.Need-part-draw-characters-start
-part-draw-characters-start c = search needs
-
-part-draw-characters-end : tie.Need-part-draw-characters-end
-part-draw-characters-end c = search needs
-
 draw-characters-requires : tie.Need-draw-characters-requires
 draw-characters-requires c κs =
     let pre = lent (c .before .before) .pre in
     (pre .0, (pre .1, simp length-take (omega arith)))
-
-slice-aggregate-lay : tie.Need-slice-aggregate-lay
-slice-aggregate-lay c = search needs
-
-sub-lay : tie.Need-sub-lay
-sub-lay c = search needs
-
-part-lay-start : tie.Need-part-lay-start
-part-lay-start c = search needs
-
-part-lay-end : tie.Need-part-lay-end
-part-lay-end c = search needs
-
-lay-requires : tie.Need-lay-requires
-lay-requires c κs = search needs
-
-same-length : tie.Need-same-length
-same-length c = search needs
 
 -- where the stop is laid after the characters
 module _ (c : tie.After-lay) where
@@ -94,7 +61,7 @@ returns-2 c =
     (record {
       answer = ap Done (sym long);
       lent =
-          filled (drawing .last .1 .0) widths end (omega arith) (ap length (drawing .ensures) ∙ length-drawn characters right)
+          stop-filled (drawing .last .1 .0) widths end (omega arith) (ap length (drawing .ensures) ∙ length-drawn characters right)
           (end - 0) (end + 7 - end) (omega arith) (omega arith)
           (laid .lay .last .1 .0) (laid .lay .ensures .lent)
           ∙ ap₂ (λ (front : List ℕ) (n : ℕ). (front ++ stop) ++ drop n widths) (drawing .ensures) (sym long);
@@ -104,17 +71,17 @@ pub draw-spec : {M : Type 1} → statement M
 draw-spec =
     tie.close
     (tie.spec
-    mul-end
-    add-count
+    (λ c. search needs)
+    (λ c. search needs)
     returns
-    sub-draw-characters
-    part-draw-characters-start
-    part-draw-characters-end
+    (λ c. search needs)
+    (λ c. search needs)
+    (λ c. search needs)
     draw-characters-requires
-    slice-aggregate-lay
-    sub-lay
-    part-lay-start
-    part-lay-end
-    lay-requires
-    same-length
+    (λ c. search needs)
+    (λ c. search needs)
+    (λ c. search needs)
+    (λ c. search needs)
+    (λ c κs. search needs)
+    (λ c. search needs)
     returns-2)

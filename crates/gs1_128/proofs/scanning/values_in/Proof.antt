@@ -1,178 +1,120 @@
--- `scanning::values_in` meets its contract: the values that were scanned stand in the list, the last is compared with the check of the
--- others, and then the first with FNC1, in the rule's order.
-use Prim.Native.Nat.{ℕ, _+_, _-_}
-use mathlib.Core.Path.{_≡_, refl, sym, ap, _∙_}
+-- `scanning::values_in` meets its contract: the values found so far, before those of the characters that are left, are what the rule makes;
+-- the first character that matches nothing decides.
+use Prim.Native.Nat.{ℕ, _+_, _-_, _*_, _≤_}
+use mathlib.Core.Path.{_≡_, refl, sym, ap, ap₂, _∙_}
 use mathlib.Core.List.{List}
-use native.Mathlib.Omega.{arith}
-use native.Mathlib.Nat.{sub-zero}
-use lib.ListN.{length, take, drop}
 use borrow.Author.Needs.{needs}
-use Rattle.refusal.specs.declared.Answer.the-variants.{Refused}
-use Rattle.refusal.specs.declared.Refusal.the-variants.{CheckCharacter, FirstCharacter}
-use Rattle.refusal.specs.Outcome.{made}
-use Rattle.refusal.proofs.FillsLaws.{refused-of-answer}
-use Rattle.refusal.proofs.OwnLaws.{own-refused, own-passed, own-same, own-made}
+use native.Mathlib.Omega.{arith}
+use lib.ListN.{length, take, drop, length-take, length-drop, length-set}
+use lib.Seq.{drop-drop}
+use Rattle.refusal.specs.declared.Refusal.the-variants.{Pattern}
+use Rattle.refusal.specs.Outcome.{refused}
+use Rattle.refusal.proofs.OwnLaws.{own-filled, own-refused}
 use Rattle.patterns.specs.Patterns.{characters}
-use Rattle.patterns.proofs.CharacterLaws.{drawn-of-characters}
-use Rattle.code128.specs.Check.{checkOf}
+use Rattle.patterns.specs.Matching.{matchIn}
+use Rattle.patterns.proofs.ScanLaws.{ScannedTo, scan-begins, scan-ends, scan-stops, scan-goes}
 use Rattle.gs1_128.specs.Symbol.{countOf, allowed}
-use Rattle.gs1_128.proofs.StageLaws.{values-refused, values-unchecked, values-unmarked, values-right}
+use Rattle.gs1_128.specs.Scanning.{valuesIn}
 use Rattle.gs1_128.proofs.scanning.values_in.Statement.{statement}
 use Rattle.gs1_128.proofs.scanning.values_in.Tie as tie
 
--- where the characters have been scanned
-module _ (c : tie.After-characters-in) where
-  abbrev lent : tie.Start
-  lent = c .before .before .before .before
+-- the widths of the character after i others, the start not counted, as the matcher is handed them
+part-is : (widths : List ℕ) (i k : ℕ) → k ≡ 6 → take k (drop (6 * (i + 1)) widths) ≡ take 6 (drop (6 * i) (drop 6 widths))
+part-is widths i k e =
+    let from : 6 * (i + 1) ≡ 6 + 6 * i = omega arith in
+    ap₂ (λ (m n : ℕ). take m (drop n widths)) e from ∙ ap (take 6) (sym (drop-drop (6 * i) 6 widths))
 
-  abbrev start : ℕ
-  start = lent .args .start
+abbrev Inv-loop : tie.InvT-loop
+Inv-loop widths values₀ i₀ values i =
+    (i ≤ length values₀) × (length values ≡ length values₀) × ScannedTo allowed 6 (length values₀) 1 (drop 6 widths) i values
+
+abbrev μ-loop : tie.MeasureT-loop
+μ-loop widths values₀ i₀ values i = length values₀ - i
+
+-- what the call was lent
+module _ (c : tie.After-slice-known Inv-loop μ-loop) where
+  abbrev lent : tie.Start Inv-loop μ-loop
+  lent = c .before .before
 
   abbrev widths : List ℕ
   widths = lent .args .widths .now
 
-  abbrev before : List ℕ
-  before = lent .args .values .now
-
-  abbrev after : List ℕ
-  after = c .characters-in .last .1 .0
-
-  count-is : countOf widths + 1 ≡ length before
-  count-is = omega (arith, lent .pre)
-
--- their answer is looked at
-module _ (c : tie.After-slice-known2) where
-  abbrev answered : tie.After-characters-in
-  answered = c .before .before
-
-characters-in-requires : tie.Need-characters-in-requires
-characters-in-requires c κs = search needs
-
-enum-told : tie.Need-enum-told
-enum-told c = search needs
-
-enum-told-2 : tie.Need-enum-told-2
-enum-told-2 c = search needs
-
-same-length : tie.Need-same-length
-same-length c = search needs
-
-returns : tie.Need-returns
-returns c =
-    let at = answered (c .before .before) in
-    let f = c .enum-told2 .given .0 .0 in
-    let is : at .characters-in .result ≡ Refused f = c .enum-told2 .given .1 in
-    own-passed _ _ _ f _ is
-    (values-refused (start at) (widths at) (length (before at)) _ (count-is at) refl f (refused-of-answer _ f (sym is ∙ at .characters-in .ensures .answer)))
-
--- where each was found
-module _ (c : tie.After-enum-told) where
-  abbrev at : tie.After-characters-in
-  at = answered (c .before .before)
-
-  scanned : characters allowed 6 (length (before at)) 1 (drop 6 (widths at)) ≡ made (after at)
-  scanned =
-      own-made _ (before at) (after at) (at .characters-in .result) (c .enum-told .given .0 .0) (c .enum-told .given .1) (at .characters-in .ensures)
-      (λ xs e. drawn-of-characters allowed 6 (length (before at)) 1 (drop 6 (widths at)) xs e .0)
-
-  as-many : length (after at) ≡ length (before at)
-  as-many = drawn-of-characters allowed 6 (length (before at)) 1 (drop 6 (widths at)) (after at) scanned .0
-
-  last-is : countOf (widths at) ≡ length (after at) - 1
-  last-is = omega (arith, count-is at, as-many)
-
-sub-last : tie.Need-sub-last
-sub-last c = search needs
-
-slice-read-if1 : tie.Need-slice-read-if1
-slice-read-if1 c = search needs
-
-cast-if1 : tie.Need-cast-if1
-cast-if1 c = omega (arith, c .slice-known3 .given (length (after (at (c .before))) - 1))
-
-sub-check-of : tie.Need-sub-check-of
-sub-check-of c = search needs
-
-part-check-of-start : tie.Need-part-check-of-start
-part-check-of-start c = search needs
-
-part-check-of-end : tie.Need-part-check-of-end
-part-check-of-end c = search needs
-
-check-of-requires : tie.Need-check-of-requires
-check-of-requires c κs = search needs
-
-same-length-2 : tie.Need-same-length-2
-same-length-2 c = search needs
-
--- what is compared with the last value
-module _ (c : tie.After-check-of) where
-  abbrev told : tie.After-enum-told
-  told = c .before .before .before .before
-
   abbrev values : List ℕ
-  values = after (at told)
+  values = lent .args .values .now
 
-  abbrev last : ℕ
-  last = length values - 1
+  counts : valuesIn widths ≡ characters allowed 6 (length values) 1 (drop 6 widths)
+  counts = let is : countOf widths + 1 ≡ length values = omega (arith, lent .pre) in rw is
 
-  check-is : c .check-of .result ≡ checkOf (start (at told)) (take last values)
-  check-is = c .check-of .ensures ∙ ap (λ (n : ℕ). checkOf (start (at told)) (take n values)) (sub-zero last)
+loop-holds : tie.Need-loop-holds Inv-loop μ-loop
+loop-holds c = (omega arith, refl, scan-begins allowed 6 (length (values c)) 1 (drop 6 (widths c)) (values c))
 
-returns-2 : tie.Need-returns-2
+allowed-value-requires : tie.Need-allowed-value-requires Inv-loop μ-loop
+allowed-value-requires c κs = simp (length-take, length-drop) (omega arith)
+
+-- a turn of the loop, from where the matcher has answered
+module _ (c : tie.After-allowed-value Inv-loop μ-loop) where
+  abbrev turn : tie.At-loop Inv-loop μ-loop
+  turn = c .before .before .before
+
+  abbrev start : tie.After-slice-known Inv-loop μ-loop
+  start = turn .before
+
+  abbrev i : ℕ
+  i = turn .loop .i
+
+  answers : c .allowed-value .result ≡ matchIn allowed (take 6 (drop (6 * i) (drop 6 (widths start))))
+  answers = c .allowed-value .ensures ∙ ap (matchIn allowed) (part-is (widths start) i (6 * (i + 1) + 6 - 6 * (i + 1)) (omega arith))
+
+returns : tie.Need-returns Inv-loop μ-loop
+returns c =
+    let at = c .before .before in
+    let place : 1 + i at ≡ i at + 1 = omega arith in
+    own-refused _ _ _ (Pattern (i at + 1))
+    (counts (start at)
+    ∙ scan-stops allowed 6 (length (values (start at))) 1 (drop 6 (widths (start at))) (turn at .loop .values) (i at) (omega arith) (turn at .loop .inv .2) (sym (c .enum-told .given .1) ∙ answers at)
+    ∙ ap (λ (n : ℕ). refused (Pattern n)) place)
+
+loop-again : tie.Need-loop-again Inv-loop μ-loop
+loop-again c =
+    let at = c .before .before .before in (
+      omega arith,
+      simp length-set (omega arith),
+      scan-goes allowed 6 (length (values (start at))) 1 (drop 6 (widths (start at))) (turn at .loop .values) (i at) (omega arith) (turn at .loop .inv .2)
+          (c .before .value .given .0 .0) (omega arith) (sym (c .before .value .given .1) ∙ answers at),
+    )
+
+returns-2 : tie.Need-returns-2 Inv-loop μ-loop
 returns-2 c =
-    let told = told (c .before) in
-    own-refused _ _ _ CheckCharacter
-    (values-unchecked (start (at told)) (widths (at told)) (length (before (at told))) (last (c .before)) (count-is (at told)) (last-is told) (after (at told)) (scanned told)
-    (λ e. c .if1 .taken (e ∙ sym (check-is (c .before)))))
-
-slice-read-if2 : tie.Need-slice-read-if2
-slice-read-if2 c = search needs
-
-same-length-3 : tie.Need-same-length-3
-same-length-3 c = search needs
-
-returns-3 : tie.Need-returns-3
-returns-3 c =
-    let check = c .before .before .before in
-    let told = told check in
-    own-refused _ _ _ FirstCharacter
-    (values-unmarked (start (at told)) (widths (at told)) (length (before (at told))) (last check) (count-is (at told)) (last-is told) (after (at told)) (scanned told)
-    (c .before .before .if1 .left ∙ check-is check) (c .if2 .taken))
-
-same-length-4 : tie.Need-same-length-4
-same-length-4 c = search needs
-
-returns-4 : tie.Need-returns-4
-returns-4 c =
-    let check = c .before .before .before in
-    let told = told check in
-    own-same _ _ _ _ _
-    (values-right (start (at told)) (widths (at told)) (length (before (at told))) (last check) (count-is (at told)) (last-is told) (after (at told)) (scanned told)
-    (c .before .before .if1 .left ∙ check-is check) (c .if2 .left)
-    ∙ sym (scanned told))
-    (at told .characters-in .ensures)
+    let at = c .before .before in
+    let loop = c .before .loop in
+    let n = length (values at) in
+    let over : loop .i ≡ n = omega arith in
+    rw over
+    (own-filled _ _ (loop .values) n
+    (counts at ∙ scan-ends allowed 6 n 1 (drop 6 (widths at)) (loop .values) (omega arith) (rw over at (loop .inv .2)))
+    (omega arith) refl)
 
 pub values-in-spec : {M : Type 1} → statement M
 values-in-spec =
     tie.close
     (tie.spec
-    characters-in-requires
-    enum-told
-    enum-told-2
-    same-length
+    Inv-loop
+    μ-loop
+    loop-holds
+    (λ c. omega arith)
+    (λ c. omega arith)
+    (λ c. omega arith)
+    (λ c. omega arith)
+    (λ c. omega arith)
+    (λ c. omega arith)
+    allowed-value-requires
+    (λ c. search needs)
+    (λ c. search needs)
+    (λ c. omega arith)
     returns
-    sub-last
-    slice-read-if1
-    cast-if1
-    sub-check-of
-    part-check-of-start
-    part-check-of-end
-    check-of-requires
-    same-length-2
-    returns-2
-    slice-read-if2
-    same-length-3
-    returns-3
-    same-length-4
-    returns-4)
+    (λ c. omega arith)
+    (λ c. omega arith)
+    (λ c. omega arith)
+    loop-again
+    (λ c. omega arith)
+    returns-2)
