@@ -1,48 +1,48 @@
 -- Theorem 4 of the design, second half: strings joined with one more are what was joined, what closes it, and the new string's bytes; so
--- adding to a message gives the message of its strings and the new one, and a message is rebuilt by adding its strings one by one.
-use Prim.Native.Nat.{ℕ, _≤_}
+-- adding to a message gives the message of its strings and the new one, and adding the strings of a message one by one in a buffer lays
+-- the message there.
+use Prim.Native.Nat.{ℕ, _+_, _-_, _≤_}
 use mathlib.Core.Path.{_≡_, refl, sym, ap, ap₂, _∙_, subst}
-use mathlib.Core.Bool.{Bool, true, false, not, _||_}
+use mathlib.Core.Bool.{Bool, true, false, _||_}
 use mathlib.Core.List.{List, [], _∷_, _++_, map, append-assoc, append-nil}
 use native.Mathlib.Omega.{arith}
-use lib.ListN.{length, length-append}
+use lib.ListN.{length, drop, length-append, length-drop}
+use lib.Seq.{take-append-seam, drop-append-add, drop-drop}
 use lib.Dec.{eqb, leb}
-use borrow.Author.Tests.{eqb-false, ne-eqb, le-leb, leb-true, not-true}
-use Rattle.refusal.specs.declared.Refusal.the-variants.{Identifier, Data, Repeated, Sequence}
-use Rattle.refusal.specs.Outcome.{Outcome, made, _>>=_}
+use borrow.Author.Tests.{eqb-false, ne-eqb, le-leb, leb-true}
+use Rattle.refusal.specs.declared.Refusal.the-variants.{Sequence}
+use Rattle.refusal.specs.Outcome.{made}
 use Rattle.refusal.proofs.OutcomeLaws.{must-made, bind-made, made-same}
+use Rattle.refusal.proofs.FillsLaws.{laying-made}
 use Rattle.elements.specs.declared.Element.{Element}
 use Rattle.laws.specs.Among.{among}
-use Rattle.identifiers.specs.Identifiers.{kindOf, spelled}
-use Rattle.identifiers.specs.Data.{rightData}
-use Rattle.elements.specs.Strings.{given, tested}
-use Rattle.elements.specs.Messages.{ElementString, Right, AllRight, right-none, right-more, Different, different-none, different-more, closing, joined, IsMessage, stringOf}
-use Rattle.adding.specs.Adding.{sofar, closed, added, SoFar, fresh, begun, addedAll}
+use Rattle.identifiers.specs.Identifiers.{spelled}
+use Rattle.elements.specs.Strings.{tested}
+use Rattle.elements.specs.Messages.{ElementString, usedIn, Right, AllRight, right-none, right-more, Different, different-none, different-more, closing, joined, IsMessage, stringOf}
+use Rattle.adding.specs.Adding.{sofar, closed, unusedIn, judged, added, adds, builtIn, addsAll, SoFar, fresh, begun}
 use Rattle.laws.proofs.AmongLaws.{among-of-nil, among-more, among-append}
-use Rattle.identifiers.proofs.DecisionLaws.{spelling-of}
-use Rattle.identifiers.proofs.ListedLaws.{listed-if-kind}
-use Rattle.elements.proofs.StringLaws.{given-made}
-use Rattle.elements.proofs.FromRule.{named, accepted-is-message}
-use Rattle.elements.proofs.FromRelation.{message-is-accepted}
-use Rattle.adding.proofs.AddLaws.{sofar-tested}
+use Rattle.elements.proofs.FromRelation.{joined-some}
+use Rattle.elements.proofs.Theorems.{strings-of-accepted, accepted-of-strings}
+use Rattle.elements.proofs.TestRefusals.{ofMessage, others-made}
+use Rattle.adding.proofs.AddLaws.{sofar-tested, judged-passed}
 
 -- what closes the last of some strings
-abbrev pub closingLast : List ElementString → List ℕ
+abbrev closingLast : List ElementString → List ℕ
 closingLast [] = []
 closingLast (s ∷ []) = closing (s .identifier)
 closingLast (s ∷ t ∷ ts) = closingLast (t ∷ ts)
 
-pub closed-shown : (message : List ℕ) (elements : List Element) → closed elements ≡ closingLast (map (stringOf message) elements)
+closed-shown : (message : List ℕ) (elements : List Element) → closed elements ≡ closingLast (map (stringOf message) elements)
 closed-shown message [] = refl
 closed-shown message (e ∷ []) = refl
 closed-shown message (e ∷ f ∷ es) = closed-shown message (f ∷ es)
 
-pub named-shown : (message : List ℕ) (elements : List Element) → map (λ (e : Element). e .identifier) elements ≡ named (map (stringOf message) elements)
-named-shown message [] = refl
-named-shown message (e ∷ es) = ap (λ (xs : List ℕ). e .identifier ∷ xs) (named-shown message es)
+pub used-shown : (message : List ℕ) (elements : List Element) → map (λ (e : Element). e .identifier) elements ≡ usedIn (map (stringOf message) elements)
+used-shown message [] = refl
+used-shown message (e ∷ es) = ap (λ (xs : List ℕ). e .identifier ∷ xs) (used-shown message es)
 
 -- strings, and one more after them
-pub joined-snoc : (ss : List ElementString) (s : ElementString) → joined (ss ++ (s ∷ [])) ≡ joined ss ++ closingLast ss ++ spelled (s .identifier) ++ s .content
+joined-snoc : (ss : List ElementString) (s : ElementString) → joined (ss ++ (s ∷ [])) ≡ joined ss ++ closingLast ss ++ spelled (s .identifier) ++ s .content
 unfolding joined
 joined-snoc [] s = refl
 joined-snoc (t ∷ []) s = sym (append-assoc (spelled (t .identifier) ++ t .content ++ closing (t .identifier)) (spelled (s .identifier)) (s .content))
@@ -61,13 +61,9 @@ right-snoc : (ss : List ElementString) (s : ElementString) → AllRight ss → R
 right-snoc [] s rs r = right-more r right-none
 right-snoc (t ∷ ts) s (right-more q rs) r = right-more q (right-snoc ts s rs r)
 
-snoc-right : (ss : List ElementString) (s : ElementString) → AllRight (ss ++ (s ∷ [])) → AllRight ss × Right s
-snoc-right [] s (right-more r rs) = (right-none, r)
-snoc-right (t ∷ ts) s (right-more q rs) = let later = snoc-right ts s rs in (right-more q (later .0), later .1)
-
-named-snoc : (ss : List ElementString) (s : ElementString) → named (ss ++ (s ∷ [])) ≡ named ss ++ (s .identifier ∷ [])
-named-snoc [] s = refl
-named-snoc (t ∷ ts) s = ap (λ (xs : List ℕ). t .identifier ∷ xs) (named-snoc ts s)
+used-append : (ss bs : List ElementString) → usedIn (ss ++ bs) ≡ usedIn ss ++ usedIn bs
+used-append [] bs = refl
+used-append (t ∷ ts) bs = ap (λ (xs : List ℕ). t .identifier ∷ xs) (used-append ts bs)
 
 neither : (a b : Bool) → (a || b) ≡ false → (a ≡ false) × (b ≡ false)
 neither true b e = absurd (let z : _≡_ {A = ℕ} 0 1 = cc in omega arith)
@@ -76,39 +72,33 @@ neither false b e = (refl, e)
 turned : (x y : ℕ) → eqb x y ≡ false → eqb y x ≡ false
 turned x y e = ne-eqb y x (λ (same : y ≡ x). eqb-false x y e (sym same))
 
-snoc-fresh : (xs : List ℕ) (y x : ℕ) → among (xs ++ (y ∷ [])) x ≡ false → (among xs x ≡ false) × (eqb y x ≡ false)
-snoc-fresh xs y x e =
-    let both = neither (among xs x) (among (y ∷ []) x) (sym (among-append xs (y ∷ []) x) ∙ e) in
-    (both .0, neither (eqb y x) (among [] x) (sym (among-more y [] x) ∙ both .1) .0)
+-- an identifier that is new among some strings and others is new among each
+new-in-both : (ss bs : List ElementString) (x : ℕ) → among (usedIn (ss ++ bs)) x ≡ false → (among (usedIn ss) x ≡ false) × (among (usedIn bs) x ≡ false)
+new-in-both ss bs x e = neither (among (usedIn ss) x) (among (usedIn bs) x) (sym (ap (λ (xs : List ℕ). among xs x) (used-append ss bs) ∙ among-append (usedIn ss) (usedIn bs) x) ∙ e)
 
-fresh-snoc : (xs : List ℕ) (y x : ℕ) → among xs x ≡ false → eqb y x ≡ false → among (xs ++ (y ∷ [])) x ≡ false
-fresh-snoc xs y x e d = rw (among-append xs (y ∷ []) x, e, among-more y [] x, d) (among-of-nil x)
+new-first : (s : ElementString) (ss : List ElementString) (x : ℕ) → among (usedIn (s ∷ ss)) x ≡ false → (eqb (s .identifier) x ≡ false) × (among (usedIn ss) x ≡ false)
+new-first s ss x e = neither (eqb (s .identifier) x) (among (usedIn ss) x) (sym (among-more (s .identifier) (usedIn ss) x) ∙ e)
 
-different-snoc : (ss : List ElementString) (s : ElementString) → Different ss → among (named ss) (s .identifier) ≡ false → Different (ss ++ (s ∷ []))
+different-snoc : (ss : List ElementString) (s : ElementString) → Different ss → among (usedIn ss) (s .identifier) ≡ false → Different (ss ++ (s ∷ []))
 different-snoc [] s ds e = different-more (among-of-nil (s .identifier)) different-none
 different-snoc (t ∷ ts) s (different-more d ds) e =
-    let both = neither (eqb (t .identifier) (s .identifier)) (among (named ts) (s .identifier)) (sym (among-more (t .identifier) (named ts) (s .identifier)) ∙ e) in
-    different-more (ap (λ (xs : List ℕ). among xs (t .identifier)) (named-snoc ts s) ∙ fresh-snoc (named ts) (s .identifier) (t .identifier) d (turned (t .identifier) (s .identifier) (both .0))) (different-snoc ts s ds (both .1))
-
-snoc-different : (ss : List ElementString) (s : ElementString) → Different (ss ++ (s ∷ [])) → Different ss × (among (named ss) (s .identifier) ≡ false)
-snoc-different [] s ds = (different-none, among-of-nil (s .identifier))
-snoc-different (t ∷ ts) s (different-more d ds) =
-    let later = snoc-different ts s ds in
-    let apart = snoc-fresh (named ts) (s .identifier) (t .identifier) (sym (ap (λ (xs : List ℕ). among xs (t .identifier)) (named-snoc ts s)) ∙ d) in
-    (different-more (apart .0) (later .0), rw (among-more (t .identifier) (named ts) (s .identifier), turned (s .identifier) (t .identifier) (apart .1)) (later .1))
+    let x = t .identifier in
+    let new = new-first t ts (s .identifier) e in
+    let apart : among (usedIn (ts ++ (s ∷ []))) x ≡ false = rw (used-append ts (s ∷ []), among-append (usedIn ts) (s .identifier ∷ []) x, d, among-more (s .identifier) [] x, turned x (s .identifier) (new .0)) (among-of-nil x) in
+    different-more apart (different-snoc ts s ds (new .1))
 
 -- the strings so far, as the rule finds them
 sofar-of : (old : List ℕ) (ss : List ElementString) → SoFar old ss → (elements : List Element) × (sofar old ≡ made elements) × (map (stringOf old) elements ≡ ss)
 sofar-of old ss fresh = ([], refl, refl)
 sofar-of old ss (begun m) =
-    let a = message-is-accepted old ss m in
+    let a = accepted-of-strings old ss m in
     (a .0, sofar-tested old (m .least) ∙ a .1, a .2)
 
 pub of-sofar : (old : List ℕ) (elements : List Element) → sofar old ≡ made elements → SoFar old (map (stringOf old) elements)
 of-sofar [] elements e = subst (λ (es : List Element). SoFar [] (map (stringOf []) es)) (made-same [] elements e) fresh
-of-sofar (byte ∷ bytes) elements e = begun (accepted-is-message (byte ∷ bytes) elements e)
+of-sofar (byte ∷ bytes) elements e = begun (strings-of-accepted (byte ∷ bytes) elements e)
 
-pub joined-sofar : (old : List ℕ) (ss : List ElementString) → SoFar old ss → old ≡ joined ss
+joined-sofar : (old : List ℕ) (ss : List ElementString) → SoFar old ss → old ≡ joined ss
 unfolding joined
 joined-sofar old ss fresh = refl
 joined-sofar old ss (begun m) = m .whole
@@ -117,51 +107,56 @@ right-sofar : (old : List ℕ) (ss : List ElementString) → SoFar old ss → Al
 right-sofar old ss fresh = (right-none, different-none)
 right-sofar old ss (begun m) = (m .right, m .different)
 
+-- the bytes that the rule makes are those of the strings so far and the new one
+pub whole-of : (old : List ℕ) (elements : List Element) (s : ElementString) → sofar old ≡ made elements → old ++ closed elements ++ spelled (s .identifier) ++ s .content ≡ joined (map (stringOf old) elements ++ (s ∷ []))
+whole-of old elements s e =
+    ap₂ (λ (front back : List ℕ). front ++ back ++ spelled (s .identifier) ++ s .content) (joined-sofar old _ (of-sofar old elements e)) (closed-shown old elements)
+    ∙ sym (joined-snoc (map (stringOf old) elements) s)
+
 -- Adding a right string of a new identifier to a message gives the message of its strings and the new one.
-pub added-of-strings : (old : List ℕ) (ss : List ElementString) (s : ElementString) → SoFar old ss → Right s → among (named ss) (s .identifier) ≡ false → length (joined (ss ++ (s ∷ []))) ≤ 48 → added old (s .identifier) (s .content) ≡ made (joined (ss ++ (s ∷ [])))
-unfolding added
+pub added-of-strings : (old : List ℕ) (ss : List ElementString) (s : ElementString) → SoFar old ss → Right s → among (usedIn ss) (s .identifier) ≡ false → length (joined (ss ++ (s ∷ []))) ≤ 48 → added old (s .identifier) (s .content) ≡ made (joined (ss ++ (s ∷ [])))
+unfolding added judged unusedIn
 added-of-strings old ss s so r apart h =
     let a = sofar-of old ss so in
     let x = s .identifier in
-    let names : among (map (λ (e : Element). e .identifier) (a .0)) x ≡ false = ap (λ (xs : List ℕ). among xs x) (named-shown old (a .0) ∙ ap named (a .2)) ∙ apart in
-    let closes : closed (a .0) ≡ closingLast ss = closed-shown old (a .0) ∙ ap closingLast (a .2) in
-    let whole : old ++ closed (a .0) ++ spelled x ++ s .content ≡ joined (ss ++ (s ∷ [])) = ap₂ (λ (front back : List ℕ). front ++ back ++ spelled x ++ s .content) (joined-sofar old ss so) closes ∙ sym (joined-snoc ss s) in
-    rw (a .1, r .listed, r .right, names, whole, le-leb (length (joined (ss ++ (s ∷ [])))) 48 h)
+    let names : among (map (λ (e : Element). e .identifier) (a .0)) x ≡ false = ap (λ (xs : List ℕ). among xs x) (used-shown old (a .0) ∙ ap usedIn (a .2)) ∙ apart in
+    let whole : old ++ closed (a .0) ++ spelled x ++ s .content ≡ joined (ss ++ (s ∷ [])) = whole-of old (a .0) s (a .1) ∙ ap (λ (ts : List ElementString). joined (ts ++ (s ∷ []))) (a .2) in
+    rw (a .1, r .listed, r .right, names, whole, le-leb (length (joined (ss ++ (s ∷ [])))) 48 h) (ap made whole)
 
 -- What adding makes is a message: that of the strings so far and the new one.
 pub message-of-added : (old : List ℕ) (x : ℕ) (content new : List ℕ) → added old x content ≡ made new → (ss : List ElementString) × SoFar old ss × IsMessage new (ss ++ (record { identifier = x; content = content } ∷ []))
 unfolding added
 message-of-added old x content new e =
-    let a = bind-made (sofar old) _ new e in
-    let b = bind-made (given (kindOf x) (Identifier (length old))) _ new (a .2) in
-    let c = must-made (rightData (b .0) content) (Data (length old)) _ new (b .2) in
-    let d = must-made (not (among (map (λ (t : Element). t .identifier) (a .0)) x)) (Repeated (length old)) _ new (c .1) in
-    let f = must-made (leb (length (old ++ closed (a .0) ++ spelled x ++ content)) 48) Sequence _ new (d .1) in
-    let is : old ++ closed (a .0) ++ spelled x ++ content ≡ new = made-same _ _ (f .1) in
+    let j = bind-made (judged old x content) _ new e in
+    let p = judged-passed old x content (made (j .0)) (others-made ofMessage (j .0)) (j .1) in
+    let m = must-made (leb (length (old ++ closed (p .strings) ++ spelled x ++ content)) 48) Sequence (made (closed (p .strings))) (j .0) (p .last) in
+    let is : old ++ closed (p .strings) ++ spelled x ++ content ≡ new = ap (λ (between : List ℕ). old ++ between ++ spelled x ++ content) (made-same _ _ (m .1)) ∙ made-same _ _ (j .2) in
     let s : ElementString = record { identifier = x; content = content } in
-    let ss = map (stringOf old) (a .0) in
-    let so : SoFar old ss = of-sofar old (a .0) (a .1) in
+    let ss = map (stringOf old) (p .strings) in
+    let so : SoFar old ss = of-sofar old (p .strings) (p .so-far) in
     let both = right-sofar old ss so in
-    let kind = given-made (kindOf x) (Identifier (length old)) (b .0) (b .1) in
-    let apart : among (named ss) x ≡ false = sym (ap (λ (xs : List ℕ). among xs x) (named-shown old (a .0))) ∙ not-true _ (d .0) in
-    let whole : new ≡ joined (ss ++ (s ∷ [])) = sym is ∙ ap₂ (λ (front back : List ℕ). front ++ back ++ spelled x ++ content) (joined-sofar old ss so) (closed-shown old (a .0)) ∙ sym (joined-snoc ss s) in
-    let two = spelling-of x (listed-if-kind x (b .0) kind) .two in (
+    let right = right-snoc ss s (both .0) (record { kind = p .kind; listed = p .listed; right = p .right }) in
+    let whole : new ≡ joined (ss ++ (s ∷ [])) = sym is ∙ whole-of old (p .strings) s (p .so-far) in (
       ss,
       so,
       record {
-        least = omega (arith, two, sym (ap length is), length-append (old ++ closed (a .0) ++ spelled x) content, length-append (old ++ closed (a .0)) (spelled x));
-        most = subst (λ (m : List ℕ). length m ≤ 48) is (leb-true _ 48 (f .0));
-        right = right-snoc ss s (both .0) (record { kind = b .0; listed = kind; right = c .0 });
-        different = different-snoc ss s (both .1) apart;
+        least = subst (λ (bytes : List ℕ). 1 ≤ length bytes) (sym whole) (joined-one ss s right);
+        most = subst (λ (bytes : List ℕ). length bytes ≤ 48) is (leb-true _ 48 (m .0));
+        right = right;
+        different = different-snoc ss s (both .1) (sym (ap (λ (xs : List ℕ). among xs x) (used-shown old (p .strings))) ∙ p .new);
         whole = whole;
       },
     )
+  where
+    joined-one : (ss : List ElementString) (s : ElementString) → AllRight (ss ++ (s ∷ [])) → 1 ≤ length (joined (ss ++ (s ∷ [])))
+    joined-one [] s rs = omega (arith, joined-some s [] rs)
+    joined-one (t ∷ ts) s rs = omega (arith, joined-some t (ts ++ (s ∷ [])) rs)
 
 -- So the test accepts it, with those strings.
 pub added-is-accepted : (old : List ℕ) (x : ℕ) (content new : List ℕ) → added old x content ≡ made new → (elements : List Element) × (tested new ≡ made elements)
 added-is-accepted old x content new e =
     let m = message-of-added old x content new e in
-    let a = message-is-accepted new (m .0 ++ (record { identifier = x; content = content } ∷ [])) (m .2) in
+    let a = accepted-of-strings new (m .0 ++ (record { identifier = x; content = content } ∷ [])) (m .2) in
     (a .0, a .1)
 
 -- the first of some strings: right, different, and no longer than all of them
@@ -169,14 +164,9 @@ right-front : (ss bs : List ElementString) → AllRight (ss ++ bs) → AllRight 
 right-front [] bs rs = right-none
 right-front (t ∷ ts) bs (right-more r rs) = right-more r (right-front ts bs rs)
 
-named-append : (ss bs : List ElementString) → named (ss ++ bs) ≡ named ss ++ named bs
-named-append [] bs = refl
-named-append (t ∷ ts) bs = ap (λ (xs : List ℕ). t .identifier ∷ xs) (named-append ts bs)
-
 different-front : (ss bs : List ElementString) → Different (ss ++ bs) → Different ss
 different-front [] bs ds = different-none
-different-front (t ∷ ts) bs (different-more d ds) =
-    different-more (neither (among (named ts) (t .identifier)) (among (named bs) (t .identifier)) (sym (ap (λ (xs : List ℕ). among xs (t .identifier)) (named-append ts bs) ∙ among-append (named ts) (named bs) (t .identifier)) ∙ d) .0) (different-front ts bs ds)
+different-front (t ∷ ts) bs (different-more d ds) = different-more (new-in-both ts bs (t .identifier) d .0) (different-front ts bs ds)
 
 joined-front : (ss bs : List ElementString) → length (joined ss) ≤ length (joined (ss ++ bs))
 unfolding joined
@@ -188,30 +178,67 @@ joined-front (t ∷ u ∷ us) bs =
     let front = spelled (t .identifier) ++ t .content ++ closing (t .identifier) in
     omega (arith, joined-front (u ∷ us) bs, length-append front (joined (u ∷ us)), length-append front (joined (u ∷ us ++ bs)))
 
--- strings added one by one to what was joined before them
-added-on : (rest : List ElementString) (old : List ℕ) (ss : List ElementString) → SoFar old ss → AllRight (ss ++ rest) → Different (ss ++ rest) → length (joined (ss ++ rest)) ≤ 48 → addedAll old rest ≡ made (joined (ss ++ rest))
-unfolding addedAll
-added-on [] old ss so rs ds h = ap made (joined-sofar old ss so ∙ ap joined (sym (append-nil ss)))
-added-on (s ∷ rest) old ss so rs ds h =
-    let all : ss ++ (s ∷ rest) ≡ ss ++ (s ∷ []) ++ rest = sym (append-assoc ss (s ∷ []) rest) in
-    let rs′ : AllRight (ss ++ (s ∷ []) ++ rest) = subst AllRight all rs in
-    let ds′ : Different (ss ++ (s ∷ []) ++ rest) = subst Different all ds in
-    let h′ : length (joined (ss ++ (s ∷ []) ++ rest)) ≤ 48 = subst (λ (ts : List ElementString). length (joined ts) ≤ 48) all h in
-    let right = right-front (ss ++ (s ∷ [])) rest rs′ in
-    let different = different-front (ss ++ (s ∷ [])) rest ds′ in
-    let few : length (joined (ss ++ (s ∷ []))) ≤ 48 = omega (arith, joined-front (ss ++ (s ∷ [])) rest) in
-    let one = added-of-strings old ss s so (snoc-right ss s right .1) (snoc-different ss s different .1) few in
-    let some-bytes = message-of-added old (s .identifier) (s .content) (joined (ss ++ (s ∷ []))) one .2 .least in
-    let next : SoFar (joined (ss ++ (s ∷ []))) (ss ++ (s ∷ [])) = begun (record { least = some-bytes; most = few; right = right; different = different; whole = refl }) in
-    ap (λ (o : Outcome (List ℕ)). o >>= (λ (m : List ℕ). addedAll m rest)) one
-    ∙ added-on rest (joined (ss ++ (s ∷ []))) (ss ++ (s ∷ [])) next rs′ ds′ h′
-    ∙ ap (λ (ts : List ElementString). made (joined ts)) (sym all)
+sofar-front : (ss bs : List ElementString) → AllRight (ss ++ bs) → Different (ss ++ bs) → length (joined (ss ++ bs)) ≤ 48 → SoFar (joined ss) ss
+unfolding joined
+sofar-front [] bs rs ds h = fresh
+sofar-front (t ∷ ts) bs rs ds h =
+    let right = right-front (t ∷ ts) bs rs in
+    begun {old = joined (t ∷ ts)} (record { least = omega (arith, joined-some t ts right); most = omega (arith, joined-front (t ∷ ts) bs); right = right; different = different-front (t ∷ ts) bs ds; whole = refl })
 
--- A message rebuilt by adding its strings one by one to a fresh one is the same message.
-pub rebuilt : (message : List ℕ) (strings : List ElementString) → IsMessage message strings → addedAll [] strings ≡ made message
-rebuilt message strings m =
-    added-on strings [] [] fresh (m .right) (m .different) (subst (λ (bytes : List ℕ). length bytes ≤ 48) (m .whole) (m .most)) ∙ ap made (sym (m .whole))
+-- and the next of them: right, and of another identifier
+next-right : (ss : List ElementString) (s : ElementString) (bs : List ElementString) → AllRight (ss ++ s ∷ bs) → Right s
+next-right [] s bs (right-more r rs) = r
+next-right (t ∷ ts) s bs (right-more q rs) = next-right ts s bs rs
+
+next-new : (ss : List ElementString) (s : ElementString) (bs : List ElementString) → Different (ss ++ s ∷ bs) → among (usedIn ss) (s .identifier) ≡ false
+next-new [] s bs ds = among-of-nil (s .identifier)
+next-new (t ∷ ts) s bs (different-more d ds) =
+    let apart = new-first s bs (t .identifier) (new-in-both ts (s ∷ bs) (t .identifier) d .1) .0 in
+    rw (among-more (t .identifier) (usedIn ts) (s .identifier), turned (s .identifier) (t .identifier) apart) (next-new ts s bs ds)
+
+-- a buffer that was lent, with a message at its front
+module _ (lent : List ℕ) where
+  abbrev holding : List ℕ → List ℕ
+  holding message = message ++ drop (length message) lent
+
+  holding-long : (message : List ℕ) → length message ≤ length lent → length (holding message) ≡ length lent
+  holding-long message h = omega (arith, length-append message (drop (length message) lent), length-drop (length message) lent)
+
+  -- where a longer one is laid over it, the rest is still as it was
+  laid-over : (old new : List ℕ) → length old ≤ length new → new ++ drop (length new) (holding old) ≡ holding new
+  laid-over old new h =
+      let k = length new - length old in
+      let size : length old + k ≡ length new = omega arith in
+      ap (λ (rest : List ℕ). new ++ rest)
+      (ap (λ (n : ℕ). drop n (holding old)) (sym size) ∙ drop-append-add old (drop (length old) lent) k ∙ drop-drop k (length old) lent ∙ ap (λ (n : ℕ). drop n lent) size)
+
+  adds-next : (old new : List ℕ) (x : ℕ) (content : List ℕ) → length old ≤ 48 → length old ≤ length lent → length new ≤ length lent → added old x content ≡ made new → adds (holding old) (length old) x content ≡ made new
+  unfolding adds
+  adds-next old new x content most within fits e =
+      let size = holding-long old within in
+      rw (le-leb (length old) 48 most, le-leb (length old) (length (holding old)) (omega arith), take-append-seam old (drop (length old) lent), e) (laying-made new (length (holding old)) (omega arith))
+
+  -- strings added one by one to those before them
+  adds-on : (bs ss : List ElementString) → AllRight (ss ++ bs) → Different (ss ++ bs) → length (joined (ss ++ bs)) ≤ 48 → length (joined (ss ++ bs)) ≤ length lent → addsAll (holding (joined ss)) (length (joined ss)) bs ≡ made (builtIn lent (joined (ss ++ bs)))
+  unfolding addsAll
+  adds-on [] ss rs ds most fits = rw append-nil
+  adds-on (s ∷ bs) ss rs ds most fits =
+      let old = joined ss in
+      let new = joined (ss ++ (s ∷ [])) in
+      let all : ss ++ (s ∷ bs) ≡ ss ++ (s ∷ []) ++ bs = sym (append-assoc ss (s ∷ []) bs) in
+      let few : length new ≤ length (joined (ss ++ (s ∷ bs))) = rw all (joined-front (ss ++ (s ∷ [])) bs) in
+      let grows = joined-front ss (s ∷ []) in
+      let one = added-of-strings old ss s (sofar-front ss (s ∷ bs) rs ds most) (next-right ss s bs rs) (next-new ss s bs ds) (omega arith) in
+      rw (adds-next old new (s .identifier) (s .content) (omega arith) (omega arith) (omega arith) one, laid-over old new grows, all)
+      (adds-on bs (ss ++ (s ∷ [])) (subst AllRight all rs) (subst Different all ds) (rw all at most) (rw all at fits))
+
+-- A message rebuilt by adding its strings one by one in a fresh buffer, one that holds anything and is long enough: it ends at the buffer's
+-- front, its length is the count, and the rest of the buffer is untouched.
+pub rebuilt : (message : List ℕ) (strings : List ElementString) (buffer : List ℕ) → IsMessage message strings → length message ≤ length buffer → addsAll buffer 0 strings ≡ made (builtIn buffer message)
+unfolding joined
+rebuilt message strings buffer m fits =
+    rw (m .whole) (adds-on buffer strings [] (m .right) (m .different) (rw (m .whole) at (m .most)) (rw (m .whole) at fits))
 
 -- and so is one rebuilt from what splitting it gave
-pub rebuilt-from-split : (message : List ℕ) (elements : List Element) → tested message ≡ made elements → addedAll [] (map (stringOf message) elements) ≡ made message
-rebuilt-from-split message elements e = rebuilt message (map (stringOf message) elements) (accepted-is-message message elements e)
+pub rebuilt-from-split : (message : List ℕ) (elements : List Element) (buffer : List ℕ) → tested message ≡ made elements → length message ≤ length buffer → addsAll buffer 0 (map (stringOf message) elements) ≡ made (builtIn buffer message)
+rebuilt-from-split message elements buffer e = rebuilt message (map (stringOf message) elements) buffer (strings-of-accepted message elements e)

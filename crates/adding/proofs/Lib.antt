@@ -1,7 +1,7 @@
 -- What adding rests on, and theorem 4 for it.
 --
 --   AddLaws        the lines of the rule, one after the other, as the calls meet them
---   AddedStrings   adding gives the message of the strings and the new one; a message rebuilt by adding its strings
+--   AddedStrings   adding gives the message of the strings and the new one; a message rebuilt in a buffer by adding its strings
 --   AddRefusals    8 and 12 come only where nothing else is wrong
 pub mod AddLaws
 pub mod AddedStrings

@@ -1,44 +1,47 @@
-// The message with the new element string, in a list of the call's own.
+// The new element string after the message in a buffer.
 ghost use mathlib.Core.Path.{_≡_};
 ghost use mathlib.Core.List.{[], _∷_, _++_};
 ghost use Prim.Native.Nat.{_+_, _≤_, _<_};
-ghost use lib.ListN.{length, take};
+ghost use lib.ListN.{length, take, drop};
+ghost use Rattle.refusal.specs.Fills.{Fills, laying};
 ghost use Rattle.character_set_82.specs.Characters.{separator};
 ghost use Rattle.identifiers.specs.Identifiers.{spelled};
+use refusal::Answer;
+use refusal::Refusal;
 
-// Writes the new message to the front of a list that has room for it, and answers its length.
+// Writes what stands between and the new string after so many bytes of a buffer: the new length; or refusal 12.
 pub fn compose(
-    old: &[u8],
+    buffer: &mut [u8],
+    count: usize,
     closing: usize,
     identifier: usize,
     content: &[u8],
-    to: &mut [u8],
-) -> usize
+) -> Answer
+    requires { ⌜ count ≤ length (now buffer) ⌝ }
     requires { ⌜ closing ≤ 1 ⌝ }
     requires { ⌜ identifier < 10000 ⌝ }
-    requires { ⌜ length (now old) + closing + length (spelled identifier) + length (now content) ≤ length (now to) ⌝ }
-    ensures { λ r. ⌜ r ≡ length (now (old .entry)) + closing + length (spelled identifier) + length (now (content .entry)) ⌝ }
-    ensures { λ r. ⌜ take r (now (to .exit)) ≡ now (old .entry) ++ take closing (separator ∷ []) ++ spelled identifier ++ now (content .entry) ⌝ }
+    requires { ⌜ count + closing + length (spelled identifier) + length (now content) ≤ 48 ⌝ }
+    ensures { λ r. ⌜ Fills (laying (take count (now (buffer .entry)) ++ take closing (separator ∷ []) ++ spelled identifier ++ now (content .entry)) (length (now (buffer .entry)))) (now (buffer .entry)) r (now (buffer .exit)) ⌝ }
 {
-    let separator = [character_set_82::SEPARATOR];
+    let size = identifiers::digits_of(identifier);
+    let end = count + closing + size + content.len();
+    if buffer.len() < end {
+        return Answer::Refused(Refusal::Room);
+    }
+    let between = [character_set_82::SEPARATOR];
     let digits = identifiers::spelling(identifier);
-    let count = identifiers::digits_of(identifier);
-    let mut at = put(old, to, 0);
-    at = put(&separator[..closing], to, at);
-    at = put(&digits[..count], to, at);
-    put(content, to, at)
+    let mut at = put(&between[..closing], buffer, count);
+    at = put(&digits[..size], buffer, at);
+    Answer::Done(put(content, buffer, at))
 }
 
-// Writes some bytes at a place of a list, and answers where they end.
+// Writes some bytes from a place of a list on, and answers where they end.
 fn put(bytes: &[u8], to: &mut [u8], at: usize) -> usize
     requires { ⌜ at + length (now bytes) ≤ length (now to) ⌝ }
     ensures { λ r. ⌜ r ≡ at + length (now (bytes .entry)) ⌝ }
-    ensures { λ r. ⌜ take r (now (to .exit)) ≡ take at (now (to .entry)) ++ now (bytes .entry) ⌝ }
+    ensures { λ r. ⌜ now (to .exit) ≡ take at (now (to .entry)) ++ now (bytes .entry) ++ drop r (now (to .entry)) ⌝ }
 {
-    let mut i = 0;
-    while i < bytes.len() {
-        to[at + i] = bytes[i];
-        i += 1;
-    }
-    at + i
+    let end = at + bytes.len();
+    refusal::lay(bytes, &mut to[at..end]);
+    end
 }

@@ -1,8 +1,8 @@
--- A walk that looks for one string of a right message: what was passed has another identifier, so the string sought is the one sought among
--- those that are left; and it stands at a place of the message, within it and not empty.
+-- The string of an identifier is the one that a walk along the message stops at, if that has the identifier; and it stands at a place of the
+-- message, within it and not empty.
 use Prim.Native.Nat.{ℕ, zero, suc, _+_, _≤_}
 use mathlib.Core.Path.{_≡_, refl, sym, ap, _∙_, subst}
-use mathlib.Core.Bool.{Bool, true, false}
+use mathlib.Core.Bool.{Bool, true, false, cond}
 use mathlib.Core.List.{List, [], _∷_}
 use native.Mathlib.Omega.{arith}
 use lib.ListN.{length, drop, length-drop}
@@ -10,12 +10,13 @@ use lib.Dec.{eqb, leb}
 use borrow.Author.Tests.{eq-eqb, ne-eqb, eqb-true, eqb-false, leb-true}
 use Rattle.refusal.specs.declared.Refusal.{Refusal}
 use Rattle.refusal.specs.declared.Refusal.the-variants.{Absent}
-use Rattle.refusal.specs.Outcome.{made, refused}
+use Rattle.refusal.specs.Outcome.{Outcome, made, refused, _>>=_, _>>_, must}
 use Rattle.refusal.proofs.OutcomeLaws.{made-not-refused, bind-made, made-same}
 use Rattle.elements.specs.declared.Element.{Element}
 use Rattle.identifiers.specs.declared.Kind.{Kind}
 use Rattle.identifiers.specs.Identifiers.{table, kindOf, spelled}
 use Rattle.elements.specs.Strings.{dataOf, elementOf, stringAt, tested}
+use Rattle.elements.specs.Found.{sought}
 use Rattle.asking.specs.Asking.{named, asked}
 use Rattle.identifiers.proofs.ListedLaws.{allRows, kind-passes}
 use Rattle.elements.proofs.StringLaws.{data-within, data-least, begin-within, FoundAt, string-found, next-within}
@@ -36,42 +37,23 @@ pub named-none : (x : ℕ) → named x [] ≡ refused Absent
 unfolding named
 named-none x = refl
 
--- where a walk stands that looks for a string: what it looks for is among the strings left
-pub record Left (message : List ℕ) (x : ℕ) (place : ℕ) (strings : List Element) : Type 0 where
-  pub rest : List Element
-  pub from : From message place rest
-  pub same : named x strings ≡ named x rest
+-- it is the one that a walk stops at, if that has the identifier
+abbrev pub checked : ℕ → Element → Outcome Element
+checked x string = must (eqb (string .identifier) x) Absent >> made string
 
-module _ (message : List ℕ) (x : ℕ) (place : ℕ) (strings : List Element) (left : Left message x place strings) where
-  abbrev first : First message place (left .rest)
-  first = first-of message place (left .rest) (left .from)
-
-  same-first : named x strings ≡ named x (first .string ∷ first .more)
-  same-first = left .same ∙ ap (named x) (first .split)
-
-  pub never-refused : (f : Refusal) → stringAt message place ≡ refused f → ⊥
-  never-refused f e = let h = first .here in let z : _≡_ {A = ℕ} 0 1 = cc in omega arith
-
-  module _ (string : Element) (here : stringAt message place ≡ made string) where
-    is-first : first .string ≡ string
-    is-first = made-same _ _ (sym (first .here) ∙ here)
-
-    pub left-here : string .identifier ≡ x → named x strings ≡ made string
-    left-here e = same-first ∙ named-here x (first .string) (first .more) (ap (λ (s : Element). s .identifier) is-first ∙ e) ∙ ap made is-first
-
-    module _ (other : string .identifier ≡ x → ⊥) where
-      later : named x strings ≡ named x (first .more)
-      later = same-first ∙ named-later x (first .string) (first .more) (λ (e : first .string .identifier ≡ x). other (sym (ap (λ (s : Element). s .identifier) is-first) ∙ e))
-
-      pub left-none : string .last ≡ true → named x strings ≡ refused Absent
-      left-none e = later ∙ ap (named x) (first .ends (ap (λ (s : Element). s .last) is-first ∙ e)) ∙ named-none x
-
-      pub left-more : string .last ≡ false → Left message x (string .next) strings
-      left-more e = record {
-        rest = first .more;
-        from = subst (λ (s : Element). From message (s .next) (first .more)) is-first (first .goes (ap (λ (s : Element). s .last) is-first ∙ e));
-        same = later;
-      }
+pub named-sought : (x : ℕ) (strings : List Element) → named x strings ≡ (sought x strings >>= checked x)
+unfolding named sought
+named-sought x [] = refl
+named-sought x (string ∷ []) = go (eqb (string .identifier) x)
+  where
+    go : (b : Bool) → cond b (made string) (refused Absent) ≡ (must b Absent >> made string)
+    go true = refl
+    go false = refl
+named-sought x (string ∷ next ∷ more) = go (eqb (string .identifier) x) refl (named-sought x (next ∷ more))
+  where
+    go : (b : Bool) → eqb (string .identifier) x ≡ b → named x (next ∷ more) ≡ (sought x (next ∷ more) >>= checked x) → cond b (made string) (named x (next ∷ more)) ≡ (cond b (made string) (sought x (next ∷ more)) >>= checked x)
+    go true p later = rw p
+    go false p later = later
 
 -- asking, once the message is tested
 module _ (message : List ℕ) (x : ℕ) where
@@ -89,16 +71,16 @@ pub record Stands (message : List ℕ) (string : Element) : Type 0 where
   pub within : place ≤ length message
   pub here : stringAt message place ≡ made string
 
-stands : (k : ℕ) (message : List ℕ) (place : ℕ) (strings : List Element) (from : From message place strings) → length strings ≤ k → place ≤ length message → (x : ℕ) (string : Element) → named x strings ≡ made string → Stands message string
+stands : (k : ℕ) (message : List ℕ) (place : ℕ) {used : List ℕ} (strings : List Element) (from : From message place used strings) → length strings ≤ k → place ≤ length message → (x : ℕ) (string : Element) → named x strings ≡ made string → Stands message string
 stands zero message place strings from h within x string e =
     let f = first-of message place strings from in
     absurd (omega (arith, ap length (f .split)))
-stands (suc k) message place strings from h within x string e =
+stands (suc k) message place {used} strings from h within x string e =
     let f = first-of message place strings from in
     go f (eqb (f .string .identifier) x) refl (f .string .last) refl
     (λ q. stands k message (f .string .next) (f .more) (f .goes q) (omega (arith, ap length (f .split))) (next-within message place (f .string) within (f .here) q .0) x string)
   where
-    go : (f : First message place strings) (b : Bool) → eqb (f .string .identifier) x ≡ b → (l : Bool) → f .string .last ≡ l → (f .string .last ≡ false → named x (f .more) ≡ made string → Stands message string) → Stands message string
+    go : (f : First message place used strings) (b : Bool) → eqb (f .string .identifier) x ≡ b → (l : Bool) → f .string .last ≡ l → (f .string .last ≡ false → named x (f .more) ≡ made string → Stands message string) → Stands message string
     go f true p l q later =
         let is : f .string ≡ string = made-same _ _ (sym (named-here x (f .string) (f .more) (eqb-true _ _ p)) ∙ ap (named x) (sym (f .split)) ∙ e) in
         record { place = place; within = within; here = f .here ∙ ap made is }

@@ -16,18 +16,17 @@ use Rattle.refusal.proofs.OutcomeLaws.{made-not-refused, bind-made, made-same}
 use Rattle.elements.specs.declared.Element.{Element}
 use Rattle.laws.specs.Among.{among}
 use Rattle.elements.specs.Strings.{tested}
-use Rattle.elements.specs.Messages.{ElementString, Different, different-more, IsMessage, stringOf}
+use Rattle.elements.specs.Messages.{ElementString, usedIn, Different, different-more, IsMessage, stringOf}
 use Rattle.asking.specs.Asking.{named, asked, partOf}
 use Rattle.laws.proofs.AmongLaws.{among-more}
-use Rattle.elements.proofs.FromRule.{named as identifiers, accepted-is-message}
-use Rattle.elements.proofs.FromRelation.{message-is-accepted}
+use Rattle.elements.proofs.Theorems.{strings-of-accepted, accepted-of-strings}
 use Rattle.asking.proofs.AskLaws.{named-here, named-later, named-none, asked-named, asked-stands, part-within, part-some}
 
 -- a string among others is one of those named
-pub among-in : (before : List ElementString) (s : ElementString) (after : List ElementString) → among (identifiers (before ++ s ∷ after)) (s .identifier) ≡ true
-among-in [] s after = rw (among-more (s .identifier) (identifiers after) (s .identifier), eq-eqb (s .identifier) (s .identifier) refl)
+among-in : (before : List ElementString) (s : ElementString) (after : List ElementString) → among (usedIn (before ++ s ∷ after)) (s .identifier) ≡ true
+among-in [] s after = rw (among-more (s .identifier) (usedIn after) (s .identifier), eq-eqb (s .identifier) (s .identifier) refl)
 among-in (t ∷ before) s after =
-    rw (among-more (t .identifier) (identifiers (before ++ s ∷ after)) (s .identifier), among-in before s after) (or-true (eqb (t .identifier) (s .identifier)))
+    rw (among-more (t .identifier) (usedIn (before ++ s ∷ after)) (s .identifier), among-in before s after) (or-true (eqb (t .identifier) (s .identifier)))
 
 module _ (message : List ℕ) where
   abbrev shown : List Element → List ElementString
@@ -51,11 +50,11 @@ module _ (message : List ℕ) where
       let z : _≡_ {A = ℕ} 0 1 = cc in omega arith in
       (later .0, named-later (s .identifier) element elements other ∙ later .1, later .2)
 
-  named-absent : (elements : List Element) (x : ℕ) → among (identifiers (shown elements)) x ≡ false → named x elements ≡ refused Absent
+  named-absent : (elements : List Element) (x : ℕ) → among (usedIn (shown elements)) x ≡ false → named x elements ≡ refused Absent
   named-absent [] x e = named-none x
-  named-absent (element ∷ elements) x e = go (eqb (element .identifier) x) refl (rw (among-more (element .identifier) (identifiers (shown elements)) x) at e) (named-absent elements x)
+  named-absent (element ∷ elements) x e = go (eqb (element .identifier) x) refl (rw (among-more (element .identifier) (usedIn (shown elements)) x) at e) (named-absent elements x)
     where
-      go : (b : Bool) → eqb (element .identifier) x ≡ b → (b || among (identifiers (shown elements)) x) ≡ false → (among (identifiers (shown elements)) x ≡ false → named x elements ≡ refused Absent) → named x (element ∷ elements) ≡ refused Absent
+      go : (b : Bool) → eqb (element .identifier) x ≡ b → (b || among (usedIn (shown elements)) x) ≡ false → (among (usedIn (shown elements)) x ≡ false → named x elements ≡ refused Absent) → named x (element ∷ elements) ≡ refused Absent
       go true p e later = absurd (let z : _≡_ {A = ℕ} 0 1 = cc in omega arith)
       go false p e later = named-later x element elements (eqb-false _ _ p) ∙ later e
 
@@ -76,16 +75,16 @@ module _ (message : List ℕ) where
   -- where the message has a string of the identifier, it is found, and the part is its data
   pub asked-of-string : (before : List ElementString) (s : ElementString) (after : List ElementString) → IsMessage message (before ++ s ∷ after) → (element : Element) × (asked message (s .identifier) ≡ made element) × (partOf message (asked message (s .identifier)) ≡ s .content)
   asked-of-string before s after m =
-      let a = message-is-accepted message (before ++ s ∷ after) m in
+      let a = accepted-of-strings message (before ++ s ∷ after) m in
       let n = named-in (a .0) before s after (a .2) (m .different) in
       let is : asked message (s .identifier) ≡ made (n .0) = asked-named message (s .identifier) (a .0) (a .1) ∙ n .1 in
       (n .0, is, ap (partOf message) is ∙ ap (λ (t : ElementString). t .content) (n .2))
 
   -- where it has none, the refusal is 13
-  pub asked-of-none : (strings : List ElementString) (x : ℕ) → IsMessage message strings → among (identifiers strings) x ≡ false → asked message x ≡ refused Absent
+  pub asked-of-none : (strings : List ElementString) (x : ℕ) → IsMessage message strings → among (usedIn strings) x ≡ false → asked message x ≡ refused Absent
   asked-of-none strings x m e =
-      let a = message-is-accepted message strings m in
-      asked-named message x (a .0) (a .1) ∙ named-absent (a .0) x (subst (λ (ss : List ElementString). among (identifiers ss) x ≡ false) (sym (a .2)) e)
+      let a = accepted-of-strings message strings m in
+      asked-named message x (a .0) (a .1) ∙ named-absent (a .0) x (subst (λ (ss : List ElementString). among (usedIn ss) x ≡ false) (sym (a .2)) e)
 
   -- what is found is a string of the message, with that identifier
   pub string-of-asked : (x : ℕ) (element : Element) → asked message x ≡ made element → (before : List ElementString) × (after : List ElementString) × IsMessage message (before ++ stringOf message element ∷ after) × (element .identifier ≡ x)
@@ -93,7 +92,7 @@ module _ (message : List ℕ) where
   string-of-asked x element e =
       let a = bind-made (tested message) _ element e in
       let n = in-named (a .0) x element (a .2) in
-      (n .0, n .1, subst (IsMessage message) (n .2) (accepted-is-message message (a .0) (a .1)), n .3)
+      (n .0, n .1, subst (IsMessage message) (n .2) (strings-of-accepted message (a .0) (a .1)), n .3)
 
   -- the part's length is the companion's count
   pub part-length : (x : ℕ) (element : Element) → asked message x ≡ made element → length (partOf message (asked message x)) ≡ element .length

@@ -1,12 +1,8 @@
 // Asking a message for one identifier: its data as the message's own bytes, and the companion call that tells why there is none.
 ghost use mathlib.Core.Path.{_≡_};
-ghost use mathlib.Core.List.{List};
-ghost use Rattle.refusal.specs.Outcome.{made};
 ghost use Rattle.refusal.specs.Fills.{answered};
-ghost use Rattle.elements.specs.declared.Element.{Element};
-ghost use Rattle.elements.specs.Strings.{parsed};
-ghost use Rattle.elements.specs.Calls.{foundOf};
-ghost use Rattle.asking.specs.Asking.{named, asked, partOf, lengthOf};
+ghost use Rattle.elements.specs.Found.{foundOf};
+ghost use Rattle.asking.specs.Asking.{asked, partOf, lengthOf};
 use elements::Found;
 use refusal::Answer;
 use refusal::Refusal;
@@ -39,29 +35,15 @@ fn find(message: &[u8], identifier: usize) -> Found
     ensures { λ r. ⌜ r ≡ foundOf (asked (now (message .entry)) identifier) ⌝ }
 {
     let tested = elements::test(message);
-    match tested {
-        Answer::Done(_) => string_of(message, identifier),
-        Answer::Refused(refusal) => Found::Refused(refusal),
+    if let Answer::Refused(refusal) = tested {
+        return Found::Refused(refusal);
     }
-}
-
-// The same, in a message that is right.
-fn string_of(message: &[u8], identifier: usize) -> Found
-    ensures { λ r. ⌜ ((strings : List Element) → parsed (now (message .entry)) ≡ made strings → r ≡ foundOf (named identifier strings)) ⌝ }
-{
-    let mut at = 0;
-    loop {
-        let found = elements::string_at(message, at);
-        let element = match found {
-            Found::String(element) => element,
-            Found::Refused(refusal) => return Found::Refused(refusal),
-        };
-        if element.identifier == identifier {
-            return Found::String(element);
-        }
-        if element.last {
-            return Found::Refused(Refusal::Absent);
-        }
-        at = element.next;
+    let found = elements::sought(message, identifier);
+    let Found::String(element) = found else {
+        return found;
+    };
+    if element.identifier == identifier {
+        return found;
     }
+    Found::Refused(Refusal::Absent)
 }

@@ -7,6 +7,8 @@ use lib.Dec.{eqb}
 use Rattle.laws.specs.First.{firstNot}
 use Rattle.laws.specs.Run.{run}
 use Rattle.laws.specs.Among.{among}
+use Rattle.character_set_82.specs.declared.Class.{Class}
+use Rattle.character_set_82.specs.declared.Class.the-variants.{Message, EightyTwo, NoSeparator}
 
 -- in order of value
 unfoldable pub eightyTwo : List ℕ
@@ -18,9 +20,15 @@ isOf82 byte = among eightyTwo byte
 abbrev pub separator : ℕ
 separator = 29
 
--- the place of the first separator
-unfoldable pub toSeparator : List ℕ → ℕ
-toSeparator bytes = firstNot (λ b. not (eqb b separator)) bytes
-
 unfoldable pub isMessageByte : ℕ → Bool
 isMessageByte byte = isOf82 byte || eqb byte separator
+
+-- the test of each class of bytes
+abbrev pub isOf : Class → ℕ → Bool
+isOf Message = isMessageByte
+isOf EightyTwo = isOf82
+isOf NoSeparator = λ byte. not (eqb byte separator)
+
+-- the place of the first separator
+unfoldable pub toSeparator : List ℕ → ℕ
+toSeparator bytes = firstNot (isOf NoSeparator) bytes

@@ -2,5 +2,5 @@
 --
 --   eightyTwo, isOf82            Characters   GS1's 82 characters, in order of value
 --   separator, toSeparator       Characters   byte 29, and the place of the first one
---   isMessageByte                Characters   one of the 82, or the separator
+--   isMessageByte, isOf          Characters   one of the 82, or the separator; the test of each class of bytes
 pub mod Characters

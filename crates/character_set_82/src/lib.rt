@@ -1,7 +1,7 @@
 // The 82 characters of a message, and the separator.
 ghost use mathlib.Core.Path.{_≡_};
 ghost use Rattle.laws.specs.First.{firstNot};
-ghost use Rattle.character_set_82.specs.Characters.{isOf82, isMessageByte, toSeparator};
+ghost use Rattle.character_set_82.specs.Characters.{isOf82, isOf};
 
 pub const SEPARATOR: u8 = 29;
 
@@ -23,50 +23,32 @@ pub fn is_of_82(byte: u8) -> bool
     false
 }
 
-fn is_message_byte(byte: u8) -> bool
-    ensures { λ r. ⌜ r ≡ isMessageByte byte ⌝ }
-{
-    if is_of_82(byte) {
-        return true;
-    }
-    byte == SEPARATOR
+// What a search passes over: the bytes of a message, the 82, or every byte but the separator.
+pub enum Class {
+    Message,
+    EightyTwo,
+    NoSeparator,
 }
 
-// The place of the first byte that no message has, or the count of bytes where there is none.
-pub fn first_bad(message: &[u8]) -> usize
-    ensures { λ r. ⌜ r ≡ firstNot isMessageByte (now (message .entry)) ⌝ }
+fn is_of(class: Class, byte: u8) -> bool
+    ensures { λ r. ⌜ r ≡ isOf class byte ⌝ }
 {
-    let mut i = 0;
-    while i < message.len() {
-        if !is_message_byte(message[i]) {
-            return i;
-        }
-        i += 1;
+    let of_82 = is_of_82(byte);
+    let separates = byte == SEPARATOR;
+    match class {
+        Class::Message => of_82 || separates,
+        Class::EightyTwo => of_82,
+        Class::NoSeparator => !separates,
     }
-    i
 }
 
-// The place of the first byte that is none of the 82, likewise.
-pub fn first_outside(bytes: &[u8]) -> usize
-    ensures { λ r. ⌜ r ≡ firstNot isOf82 (now (bytes .entry)) ⌝ }
+// The place of the first byte that is not of a class, or the count of bytes where there is none.
+pub fn first_not(class: Class, bytes: &[u8]) -> usize
+    ensures { λ r. ⌜ r ≡ firstNot (isOf class) (now (bytes .entry)) ⌝ }
 {
     let mut i = 0;
     while i < bytes.len() {
-        if !is_of_82(bytes[i]) {
-            return i;
-        }
-        i += 1;
-    }
-    i
-}
-
-// The place of the first separator, likewise.
-pub fn first_separator(bytes: &[u8]) -> usize
-    ensures { λ r. ⌜ r ≡ toSeparator (now (bytes .entry)) ⌝ }
-{
-    let mut i = 0;
-    while i < bytes.len() {
-        if bytes[i] == SEPARATOR {
+        if !is_of(class, bytes[i]) {
             return i;
         }
         i += 1;

@@ -16,7 +16,7 @@ use Rattle.elements.specs.declared.Element.{Element}
 use Rattle.elements.specs.declared.Found.the-variants.{String, Refused as NotFound}
 use Rattle.laws.specs.Among.{among}
 use Rattle.elements.specs.Strings.{stringAt, stringsFrom}
-use Rattle.elements.specs.Calls.{foundOf}
+use Rattle.elements.specs.Found.{foundOf}
 
 -- the answer where so many strings have been passed
 abbrev pub counted : ℕ → Outcome (List Element) → Answer

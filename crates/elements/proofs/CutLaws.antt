@@ -34,9 +34,9 @@ separator-there bytes n is h =
     subst (λ (m : ℕ). getD bytes m 0 ≡ separator) is (eqb-true _ separator (not-false _ (first-fails (λ (b : ℕ). not (eqb b separator)) bytes 0 before)))
 
 -- data of variable length that doesn't end the message ends at a separator
-closed : (message : List ℕ) (kind : Kind) (b n : ℕ) → n ≡ length (dataOf kind (drop b message)) → b ≤ length message → (b + n ≡ length message → ⊥) → drop (b + n) message ≡ cond (kind .predefined) [] (separator ∷ []) ++ drop (nextAfter kind (b + n)) message
+ends-closed : (message : List ℕ) (kind : Kind) (b n : ℕ) → n ≡ length (dataOf kind (drop b message)) → b ≤ length message → (b + n ≡ length message → ⊥) → drop (b + n) message ≡ cond (kind .predefined) [] (separator ∷ []) ++ drop (nextAfter kind (b + n)) message
 unfolding nextAfter
-closed message kind b n is within ends = go (kind .predefined) refl
+ends-closed message kind b n is within ends = go (kind .predefined) refl
   where
     go : (p : Bool) → kind .predefined ≡ p → drop (b + n) message ≡ cond p [] (separator ∷ []) ++ drop (cond p (b + n) (b + n + 1)) message
     go true e = refl
@@ -88,5 +88,5 @@ module _ (message : List ℕ) (at : ℕ) (string : Element) (f : FoundAt message
   unfolding elementOf
   closes within goes =
       let ends : begin + count ≡ length message → ⊥ = eqb-false _ _ (sym (ap (λ (s : Element). s .last) (f .made-of)) ∙ goes) in
-      closed message (f .kind) begin count refl (begin-within message at x (f .kind) (f .here) (f .listed) within) ends
+      ends-closed message (f .kind) begin count refl (begin-within message at x (f .kind) (f .here) (f .listed) within) ends
       ∙ ap₂ (λ (front : List ℕ) (next : ℕ). front ++ drop next message) (sym (closing-is x (f .kind) (f .listed))) (sym (ap (λ (s : Element). s .next) (f .made-of)))

@@ -1,7 +1,7 @@
 -- Every message is accepted, with its own strings: where the bytes from a place on are strings joined, the rule finds the first of them
 -- there, and the others from where it says that the next must begin.
 use Prim.Native.Nat.{ℕ, zero, suc, _+_, _≤_}
-use mathlib.Core.Path.{_≡_, refl, sym, ap, ap₂, _∙_, subst}
+use mathlib.Core.Path.{_≡_, refl, sym, ap, ap₂, _∙_}
 use mathlib.Core.Bool.{Bool, true, false, cond, _||_}
 use mathlib.Core.List.{List, [], _∷_, _++_, map}
 use mathlib.Core.Option.{Option, some, none}
@@ -22,7 +22,7 @@ use Rattle.character_set_82.specs.Characters.{separator, isOf82, isMessageByte}
 use Rattle.identifiers.specs.Identifiers.{kindOf, spelled, identifierIn}
 use Rattle.identifiers.specs.Data.{rightData}
 use Rattle.elements.specs.Strings.{dataOf, nextAfter, elementOf, stringAt, stringsFrom, parsed, tested}
-use Rattle.elements.specs.Messages.{ElementString, Right, AllRight, right-more, Different, different-more, closingOf, closing, joined, IsMessage, stringOf}
+use Rattle.elements.specs.Messages.{ElementString, usedIn, Right, AllRight, right-more, Different, different-more, closingOf, closing, joined, IsMessage, stringOf}
 use Rattle.laws.proofs.AmongLaws.{among-of-nil, among-more, among-append}
 use Rattle.identifiers.proofs.ListedLaws.{listed-if-kind, found-listed}
 use Rattle.identifiers.proofs.DecisionLaws.{spelling-of}
@@ -31,7 +31,7 @@ use Rattle.elements.proofs.CountLaws.{from-last, from-made}
 use Rattle.elements.proofs.CutLaws.{closing-is}
 use Rattle.character_set_82.proofs.CharacterLaws.{separator-byte, digit-of-82, message-byte}
 use Rattle.elements.proofs.PlainLaws.{sound, data-at-end, data-before}
-use Rattle.elements.proofs.FromRule.{named, joined-more, regroup}
+use Rattle.elements.proofs.FromRule.{joined-more, regroup}
 
 abbrev withContent : ℕ → List ℕ → ElementString
 withContent identifier content = record { identifier = identifier; content = content }
@@ -96,7 +96,7 @@ record Rebuilt (k : ℕ) (message : List ℕ) (place : ℕ) (used : List ℕ) (s
 
 -- none of the identifiers used is among these strings'
 abbrev New : List ℕ → List ElementString → Type 0
-New used strings = (u : ℕ) → among used u ≡ true → among (named strings) u ≡ false
+New used strings = (u : ℕ) → among used u ≡ true → among (usedIn strings) u ≡ false
 
 first-new : (used : List ℕ) (s : ElementString) (ss : List ElementString) → New used (s ∷ ss) → among used (s .identifier) ≡ false
 first-new used s ss new = go (among used (s .identifier)) refl
@@ -104,15 +104,15 @@ first-new used s ss new = go (among used (s .identifier)) refl
     go : (b : Bool) → among used (s .identifier) ≡ b → b ≡ false
     go false e = refl
     go true e =
-        absurd (let no : true ≡ false = rw (among-more (s .identifier) (named ss) (s .identifier), eq-eqb (s .identifier) (s .identifier) refl) at (new (s .identifier) e) in let z : _≡_ {A = ℕ} 0 1 = cc in omega arith)
+        absurd (let no : true ≡ false = rw (among-more (s .identifier) (usedIn ss) (s .identifier), eq-eqb (s .identifier) (s .identifier) refl) at (new (s .identifier) e) in let z : _≡_ {A = ℕ} 0 1 = cc in omega arith)
 
-others-new : (used : List ℕ) (s : ElementString) (ss : List ElementString) → New used (s ∷ ss) → among (named ss) (s .identifier) ≡ false → New (used ++ (s .identifier ∷ [])) ss
+others-new : (used : List ℕ) (s : ElementString) (ss : List ElementString) → New used (s ∷ ss) → among (usedIn ss) (s .identifier) ≡ false → New (used ++ (s .identifier ∷ [])) ss
 others-new used s ss new apart u h = go (among used u) refl (eqb (s .identifier) u) refl (rw (among-append used (s .identifier ∷ []) u, among-more (s .identifier) [] u, among-of-nil u) at h)
   where
-    go : (a : Bool) → among used u ≡ a → (b : Bool) → eqb (s .identifier) u ≡ b → (a || (b || false)) ≡ true → among (named ss) u ≡ false
-    go true p b q e = either b (rw (among-more (s .identifier) (named ss) u, q) at (new u p))
+    go : (a : Bool) → among used u ≡ a → (b : Bool) → eqb (s .identifier) u ≡ b → (a || (b || false)) ≡ true → among (usedIn ss) u ≡ false
+    go true p b q e = either b (rw (among-more (s .identifier) (usedIn ss) u, q) at (new u p))
       where
-        either : (b : Bool) → (b || among (named ss) u) ≡ false → among (named ss) u ≡ false
+        either : (b : Bool) → (b || among (usedIn ss) u) ≡ false → among (usedIn ss) u ≡ false
         either true e = absurd (let z : _≡_ {A = ℕ} 0 1 = cc in omega arith)
         either false e = e
     go false p true q e = rw (eqb-true (s .identifier) u q) at apart
@@ -146,7 +146,7 @@ bytes-least : (strings : List ElementString) → AllRight strings → length str
 bytes-least [] rs = omega arith
 bytes-least (s ∷ ss) (right-more r rs) = omega (arith, bytes-least ss rs, spelling-of (s .identifier) (listed-if-kind (s .identifier) (r .kind) (r .listed)) .two)
 
-joined-some : (s : ElementString) (ss : List ElementString) → AllRight (s ∷ ss) → length (s ∷ ss) ≤ length (joined (s ∷ ss))
+pub joined-some : (s : ElementString) (ss : List ElementString) → AllRight (s ∷ ss) → length (s ∷ ss) ≤ length (joined (s ∷ ss))
 joined-some s ss rs = omega (arith, bytes-most s ss, bytes-least (s ∷ ss) rs)
 
 -- the last string, and one that others follow
@@ -220,7 +220,7 @@ closing-bytes s r = rw (closing-is (s .identifier) (r .kind) (r .listed)) (go (r
     go true = refl
     go false = rw separator-byte
 
-joined-bytes : (strings : List ElementString) → AllRight strings → firstNot isMessageByte (joined strings) ≡ length (joined strings)
+pub joined-bytes : (strings : List ElementString) → AllRight strings → firstNot isMessageByte (joined strings) ≡ length (joined strings)
 unfolding joined
 joined-bytes [] rs = first-of-nil isMessageByte
 joined-bytes (s ∷ []) (right-more r rs) = pass-append isMessageByte (spelled (s .identifier)) (s .content) (spelled-bytes (s .identifier) (r .kind) (r .listed)) (content-bytes s r)
@@ -230,18 +230,6 @@ joined-bytes (s ∷ t ∷ ts) (right-more r rs) =
     (pass-append isMessageByte (spelled (s .identifier)) (s .content) (spelled-bytes (s .identifier) (r .kind) (r .listed)) (content-bytes s r)) (closing-bytes s r))
     (joined-bytes (t ∷ ts) rs)
 
-tested-if : (message : List ℕ) → 1 ≤ length message → length message ≤ 48 → firstNot isMessageByte message ≡ length message → tested message ≡ parsed message
+pub tested-if : (message : List ℕ) → 1 ≤ length message → length message ≤ 48 → firstNot isMessageByte message ≡ length message → tested message ≡ parsed message
 unfolding tested
 tested-if message least most all = rw (le-leb 1 (length message) least, le-leb (length message) 48 most, eq-eqb _ _ all)
-
--- Theorem 4 of the design, from right to left: every message is accepted, with exactly its strings.
-pub message-is-accepted : (message : List ℕ) (strings : List ElementString) → IsMessage message strings → (elements : List Element) × (tested message ≡ made elements) × (map (stringOf message) elements ≡ strings)
-unfolding joined
-message-is-accepted message [] m = absurd (none (m .whole) (m .least))
-  where
-    none : message ≡ joined [] → 1 ≤ length message → ⊥
-    none e h = omega (arith, ap length e)
-message-is-accepted message (s ∷ ss) m =
-    let p = parsed-of-message message s ss m in
-    let all : firstNot isMessageByte message ≡ length message = subst (λ (bytes : List ℕ). firstNot isMessageByte bytes ≡ length bytes) (sym (m .whole)) (joined-bytes (s ∷ ss) (m .right)) in
-    (p .0, tested-if message (m .least) (m .most) all ∙ p .1, p .2)

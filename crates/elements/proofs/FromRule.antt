@@ -1,30 +1,28 @@
 -- What the rule accepts is a message: each string that it finds is right and takes its bytes off the front, what closes it is there, and
 -- no identifier was used before.
-use Prim.Native.Nat.{ℕ, zero, suc, _≤_}
+use Prim.Native.Nat.{ℕ, _≤_}
 use mathlib.Core.Path.{_≡_, refl, sym, ap, ap₂, _∙_, subst}
-use mathlib.Core.Bool.{Bool, true, false, cond, not, _&&_, or-true}
+use mathlib.Core.Bool.{Bool, true, false, _&&_, or-true}
 use mathlib.Core.List.{List, [], _∷_, _++_, map, append-assoc, append-nil}
 use native.Mathlib.Omega.{arith}
 use lib.ListN.{length, drop}
 use lib.Dec.{eqb, leb}
-use borrow.Author.Tests.{eqb-true, eq-eqb, leb-true, not-true}
+use borrow.Author.Tests.{eqb-true, eq-eqb, leb-true}
 use Rattle.laws.specs.First.{firstNot}
 use Rattle.laws.proofs.Booleans.{both-hold}
-use Rattle.refusal.specs.declared.Refusal.the-variants.{Count, Character, Repeated}
+use Rattle.refusal.specs.declared.Refusal.the-variants.{Count, Character}
 use Rattle.refusal.specs.Outcome.{made}
-use Rattle.refusal.proofs.OutcomeLaws.{must-made, bind-made, made-same}
+use Rattle.refusal.proofs.OutcomeLaws.{must-made}
 use Rattle.elements.specs.declared.Element.{Element}
 use Rattle.laws.specs.Among.{among}
 use Rattle.character_set_82.specs.Characters.{isMessageByte}
 use Rattle.identifiers.specs.Identifiers.{spelled}
-use Rattle.elements.specs.Strings.{stringAt, stringsFrom, parsed, tested}
-use Rattle.elements.specs.Messages.{ElementString, AllRight, right-none, right-more, Different, different-none, different-more, closing, joined, IsMessage, stringOf}
+use Rattle.elements.specs.Strings.{stringAt, parsed, tested}
+use Rattle.elements.specs.Messages.{ElementString, usedIn, AllRight, right-none, right-more, Different, different-none, different-more, closing, joined, IsMessage, stringOf}
 use Rattle.laws.proofs.AmongLaws.{among-of-nil, among-more, among-append}
 use Rattle.elements.proofs.StringLaws.{string-found, next-within}
+use Rattle.elements.proofs.WalkLaws.{From, First, first-of, from-start}
 use Rattle.elements.proofs.CutLaws.{content-is, right-string, begins, goes-on, at-last, closes}
-
-abbrev pub named : List ElementString → List ℕ
-named strings = map (λ s. s .identifier) strings
 
 pub joined-more : (s t : ElementString) (ts : List ElementString) → joined (s ∷ t ∷ ts) ≡ spelled (s .identifier) ++ s .content ++ closing (s .identifier) ++ joined (t ∷ ts)
 unfolding joined
@@ -34,7 +32,7 @@ joined-more s t ts = refl
 record Walked (message : List ℕ) (place : ℕ) (used : List ℕ) (string : Element) (more : List Element) : Type 0 where
   right : AllRight (map (stringOf message) (string ∷ more))
   different : Different (map (stringOf message) (string ∷ more))
-  new : (u : ℕ) → among used u ≡ true → among (named (map (stringOf message) (string ∷ more))) u ≡ false
+  new : (u : ℕ) → among used u ≡ true → among (usedIn (map (stringOf message) (string ∷ more))) u ≡ false
   whole : drop place message ≡ joined (map (stringOf message) (string ∷ more))
 
 pub regroup : (a b c d : List ℕ) → a ++ (b ++ (c ++ d)) ≡ a ++ b ++ c ++ d
@@ -96,37 +94,29 @@ record Walk (message : List ℕ) (place : ℕ) (used : List ℕ) (elements : Lis
   split : elements ≡ string ∷ more
   walked : Walked message place used string more
 
-walk : (k : ℕ) (message : List ℕ) (place : ℕ) (used : List ℕ) (elements : List Element) → place ≤ length message → stringsFrom k message place used ≡ made elements → Walk message place used elements
-unfolding stringsFrom
-walk zero message place used elements within e = absurd (let z : _≡_ {A = ℕ} 0 1 = cc in omega arith)
-walk (suc k) message place used elements within e =
-    let a = bind-made (stringAt message place) _ elements e in
-    let string = a .0 in
-    let m = must-made (not (among used (string .identifier))) (Repeated place) _ elements (a .2) in
-    let b = bind-made (cond (string .last) (made []) (stringsFrom k message (string .next) (used ++ (string .identifier ∷ [])))) _ elements (m .1) in
-    go string (a .1) (not-true _ (m .0)) (b .0) (sym (made-same _ _ (b .2))) (string .last) refl (b .1)
-    (λ goes. walk k message (string .next) (used ++ (string .identifier ∷ [])) (b .0) (next-within message place string within (a .1) goes .0))
+walk : (message : List ℕ) (place : ℕ) (used : List ℕ) (elements : List Element) → place ≤ length message → From message place used elements → Walk message place used elements
+walk message place used [] within from = absurd (omega (arith, ap length (first-of message place [] from .split)))
+walk message place used (element ∷ elements) within from =
+    let f = first-of message place (element ∷ elements) from in
+    let same : f .more ≡ elements = cc (f .split) in
+    go f same (f .string .last) refl
+    (λ goes. walk message (f .string .next) (used ++ (f .string .identifier ∷ [])) elements (next-within message place (f .string) within (f .here) goes .0) (rw same at (f .goes goes)))
   where
-    go : (string : Element) → stringAt message place ≡ made string → among used (string .identifier) ≡ false → (rest : List Element) → elements ≡ string ∷ rest → (l : Bool) → string .last ≡ l
-        → cond l (made []) (stringsFrom k message (string .next) (used ++ (string .identifier ∷ []))) ≡ made rest
-        → (string .last ≡ false → stringsFrom k message (string .next) (used ++ (string .identifier ∷ [])) ≡ made rest → Walk message (string .next) (used ++ (string .identifier ∷ [])) rest)
-        → Walk message place used elements
-    go string here fresh rest split true l e later =
-        let none : rest ≡ [] = cc in
-        record { string = string; more = []; split = rw none at split; walked = walked-last message place used string within here fresh l }
-    go string here fresh rest split false l e later =
-        let w = later l e in
+    go : (f : First message place used (element ∷ elements)) → f .more ≡ elements → (l : Bool) → f .string .last ≡ l → (f .string .last ≡ false → Walk message (f .string .next) (used ++ (f .string .identifier ∷ [])) elements) → Walk message place used (element ∷ elements)
+    go f same true l later =
+        record { string = f .string; more = []; split = f .split ∙ ap (λ (es : List Element). f .string ∷ es) (f .ends l); walked = walked-last message place used (f .string) within (f .here) (f .new) l }
+    go f same false l later =
+        let w = later l in
         record {
-          string = string;
+          string = f .string;
           more = w .string ∷ w .more;
-          split = split ∙ ap (λ (es : List Element). string ∷ es) (w .split);
-          walked = walked-more message place used string within here fresh l (w .string) (w .more) (w .walked);
+          split = f .split ∙ ap (λ (es : List Element). f .string ∷ es) (same ∙ w .split);
+          walked = walked-more message place used (f .string) within (f .here) (f .new) l (w .string) (w .more) (w .walked);
         }
 
 pub message-of-parsed : (message : List ℕ) (elements : List Element) → 1 ≤ length message → length message ≤ 48 → parsed message ≡ made elements → IsMessage message (map (stringOf message) elements)
-unfolding parsed
 message-of-parsed message elements least most e =
-    let w = walk (suc (length message)) message 0 [] elements (omega arith) e in
+    let w = walk message 0 [] elements (omega arith) (from-start message elements e) in
     subst (λ (es : List Element). IsMessage message (map (stringOf message) es)) (sym (w .split))
     (record { least = least; most = most; right = w .walked .right; different = w .walked .different; whole = w .walked .whole })
 
@@ -144,9 +134,3 @@ tested-made message elements e =
     let sizes = both-hold (leb 1 (length message)) (leb (length message) 48) (a .0) in
     let b = must-made (eqb (firstNot isMessageByte message) (length message)) (Character (firstNot isMessageByte message)) (parsed message) elements (a .1) in
     record { least = leb-true _ _ (sizes .0); most = leb-true _ _ (sizes .1); bytes = eqb-true _ _ (b .0); strings = b .1 }
-
--- Theorem 4 of the design, from left to right: what is accepted is a message, and the strings found are its strings.
-pub accepted-is-message : (message : List ℕ) (elements : List Element) → tested message ≡ made elements → IsMessage message (map (stringOf message) elements)
-accepted-is-message message elements e =
-    let a = tested-made message elements e in
-    message-of-parsed message elements (a .least) (a .most) (a .strings)

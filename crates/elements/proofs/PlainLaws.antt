@@ -24,7 +24,7 @@ use Rattle.elements.specs.Strings.{dataOf}
 use Rattle.identifiers.proofs.ListedLaws.{allRows, kind-passes}
 use Rattle.character_set_82.proofs.CharacterLaws.{digit-of-82, no-separator}
 
-pub passes-of-82 : (content : Content) (bytes : List ℕ) → passes content bytes ≡ true → firstNot isOf82 bytes ≡ length bytes
+passes-of-82 : (content : Content) (bytes : List ℕ) → passes content bytes ≡ true → firstNot isOf82 bytes ≡ length bytes
 unfolding passes isNumber isDate
 passes-of-82 DigitsWithCheck bytes e = pass-also isDigit isOf82 digit-of-82 bytes (eqb-true _ _ (both-hold (allPass isDigit bytes) _ e .0))
 passes-of-82 Date bytes e =
@@ -55,7 +55,7 @@ all-one : allRows oneLength table ≡ true
 unfolding oneLength table
 all-one = refl
 
-pub one-length : (x : ℕ) (kind : Kind) → kindOf x ≡ some kind → kind .predefined ≡ true → kind .least ≡ kind .most
+one-length : (x : ℕ) (kind : Kind) → kindOf x ≡ some kind → kind .predefined ≡ true → kind .least ≡ kind .most
 unfolding kindOf oneLength
 one-length x kind e is = eqb-true _ _ (rw is at (kind-passes oneLength table all-one x kind e))
 

@@ -1,13 +1,13 @@
 -- One element string where one must begin: what the rule's lines leave, read forwards for the call that follows them and backwards for
 -- what is known of a string that was found.
-use Prim.Native.Nat.{ℕ, zero, suc, _+_, _-_, _≤_}
+use Prim.Native.Nat.{ℕ, zero, suc, _+_, _-_, _≤_, _<_}
 use mathlib.Core.Path.{_≡_, refl, sym, ap, _∙_, subst}
 use mathlib.Core.Bool.{Bool, true, false, cond, not, _&&_}
 use mathlib.Core.List.{List, [], _∷_}
 use mathlib.Core.Option.{Option, some, none}
-use native.Mathlib.Nat.{add-sub-cancel-left}
+use native.Mathlib.Nat.{add-sub-cancel-left, le-of-lt}
 use native.Mathlib.Omega.{arith}
-use lib.ListN.{length, take, drop, length-append, length-take, length-drop}
+use lib.ListN.{length, take, drop, length-append, length-take, length-drop, drop-of-length-le}
 use lib.Seq.{take-all}
 use lib.Dec.{eqb, leb}
 use borrow.Author.Tests.{leb-true, eqb-false}
@@ -21,12 +21,14 @@ use Rattle.elements.specs.declared.Element.{Element}
 use Rattle.identifiers.specs.declared.Kind.{Kind}
 use Rattle.identifiers.specs.declared.Row.the-variants.{Listed, Unlisted}
 use Rattle.character_set_82.specs.Characters.{separator, toSeparator}
-use Rattle.identifiers.specs.Identifiers.{table, kindOf, spelled, identifierIn}
-use Rattle.identifiers.specs.Rows.{withKind, rowOf, rowIn, rowAt}
+use Rattle.patterns.specs.Patterns.{same}
+use Rattle.identifiers.specs.Identifiers.{measures, table, kindOf, spelled, firstOf, identifiersOf, listed, identifierIn}
+use Rattle.identifiers.specs.Rows.{rowIn, rowAt}
 use Rattle.identifiers.specs.Data.{passes, rightData}
 use Rattle.elements.specs.Strings.{given, dataOf, nextAfter, elementOf, stringAt}
 use Rattle.identifiers.proofs.ListedLaws.{allRows, kind-passes, listed-found}
 use Rattle.identifiers.proofs.DecisionLaws.{begun}
+use Rattle.identifiers.proofs.RowLaws.{kind-of-row, no-kind-of-row}
 
 cut-again : (n : ℕ) (xs : List ℕ) → take (length (take n xs)) xs ≡ take n xs
 cut-again zero xs = refl
@@ -55,33 +57,36 @@ module _ (kind : Kind) (bytes : List ℕ) where
   unfolding dataOf
   data-of-long e h = rw e (length-take (kind .most) bytes ∙ omega arith)
 
+-- past the end of the message no identifier begins
+no-identifier : identifierIn [] ≡ none
+unfolding identifierIn firstOf listed identifiersOf table measures spelled same
+no-identifier = refl
+
+pub string-past-end : (message : List ℕ) (at : ℕ) → length message < at → stringAt message at ≡ refused (Identifier at)
+unfolding stringAt
+string-past-end message at h = rw (drop-of-length-le message (le-of-lt h), no-identifier)
+
 pub row-listed : (bytes : List ℕ) (x : ℕ) (kind : Kind) → rowAt bytes ≡ Listed x kind → (identifierIn bytes ≡ some x) × (kindOf x ≡ some kind)
-unfolding rowAt rowOf
-row-listed bytes x kind e = go (identifierIn bytes) refl e
+unfolding rowAt
+row-listed bytes x kind e = go (identifierIn bytes) e
   where
-    go : (o : Option ℕ) → identifierIn bytes ≡ o → rowIn o ≡ Listed x kind → (identifierIn bytes ≡ some x) × (kindOf x ≡ some kind)
-    go none p e = absurd (let z : _≡_ {A = ℕ} 0 1 = cc in omega arith)
-    go (some y) p e = then (kindOf y) refl e
-      where
-        then : (k : Option Kind) → kindOf y ≡ k → withKind y k ≡ Listed x kind → (identifierIn bytes ≡ some x) × (kindOf x ≡ some kind)
-        then none q e = absurd (let z : _≡_ {A = ℕ} 0 1 = cc in omega arith)
-        then (some k) q e = (cc, cc)
+    go : (o : Option ℕ) → rowIn o ≡ Listed x kind → (o ≡ some x) × (kindOf x ≡ some kind)
+    go none e = absurd (let z : _≡_ {A = ℕ} 0 1 = cc in omega arith)
+    go (some y) e =
+        let known = kind-of-row y x kind e in
+        (ap some (known .0), rw (known .0) at (known .1))
 
 module _ (message : List ℕ) (at : ℕ) where
   pub rest-of : take (length message - at) (drop at message) ≡ drop at message
   rest-of = take-all (length message - at) (drop at message) (rw length-drop (omega arith))
 
   pub string-unlisted : rowAt (drop at message) ≡ Unlisted → stringAt message at ≡ refused (Identifier at)
-  unfolding stringAt rowAt rowOf
+  unfolding stringAt rowAt
   string-unlisted e = go (identifierIn (drop at message)) refl e
     where
       go : (o : Option ℕ) → identifierIn (drop at message) ≡ o → rowIn o ≡ Unlisted → stringAt message at ≡ refused (Identifier at)
       go none p e = rw p
-      go (some x) p e = then (kindOf x) refl e
-        where
-          then : (k : Option Kind) → kindOf x ≡ k → withKind x k ≡ Unlisted → stringAt message at ≡ refused (Identifier at)
-          then none q e = rw (p, q)
-          then (some kind) q e = absurd (let z : _≡_ {A = ℕ} 0 1 = cc in omega arith)
+      go (some x) p e = rw (p, no-kind-of-row x e)
 
   module _ (x : ℕ) (kind : Kind) (here : identifierIn (drop at message) ≡ some x) (is : kindOf x ≡ some kind) where
     pub begin-within : at ≤ length message → at + length (spelled x) ≤ length message

@@ -13,11 +13,10 @@ use Rattle.laws.specs.First.{firstNot}
 use Rattle.identifiers.specs.declared.Kind.{Kind}
 use Rattle.laws.specs.Among.{placeIn, among}
 use Rattle.identifiers.specs.Identifiers.{measures, table, kindIn, kindOf, spelled, identifiersOf, listed}
-use Rattle.elements.specs.Messages.{ElementString, Right, AllRight, right-more, Different, different-more, closing, IsMessage}
+use Rattle.elements.specs.Messages.{ElementString, usedIn, Right, AllRight, right-more, Different, different-more, closing, IsMessage}
 use Rattle.laws.proofs.AmongLaws.{among-of-nil, among-more, all, all-among}
 use Rattle.identifiers.proofs.ListedLaws.{listed-if-kind}
 use Rattle.elements.proofs.PlainLaws.{sound}
-use Rattle.elements.proofs.FromRule.{named}
 use Rattle.elements.proofs.FromRelation.{bytesOf, bytes-most}
 
 abbrev bit : Bool → ℕ
@@ -46,11 +45,11 @@ tally-more : (x : ℕ) (xs : List ℕ) (strings : List ElementString) → tally 
 tally-more x xs [] = omega arith
 tally-more x xs (s ∷ ss) = rw (among-more x xs (s .identifier)) (omega (arith, tally-more x xs ss, bit-or (eqb x (s .identifier)) (among xs (s .identifier))))
 
-absent : (x : ℕ) (strings : List ElementString) → among (named strings) x ≡ false → once x strings ≡ 0
+absent : (x : ℕ) (strings : List ElementString) → among (usedIn strings) x ≡ false → once x strings ≡ 0
 absent x [] e = refl
-absent x (s ∷ ss) e = go (eqb x (s .identifier)) refl (eqb (s .identifier) x) refl (rw (among-more (s .identifier) (named ss) x) at e) (absent x ss)
+absent x (s ∷ ss) e = go (eqb x (s .identifier)) refl (eqb (s .identifier) x) refl (rw (among-more (s .identifier) (usedIn ss) x) at e) (absent x ss)
   where
-    go : (a : Bool) → eqb x (s .identifier) ≡ a → (b : Bool) → eqb (s .identifier) x ≡ b → (b || among (named ss) x) ≡ false → (among (named ss) x ≡ false → once x ss ≡ 0) → bit a + once x ss ≡ 0
+    go : (a : Bool) → eqb x (s .identifier) ≡ a → (b : Bool) → eqb (s .identifier) x ≡ b → (b || among (usedIn ss) x) ≡ false → (among (usedIn ss) x ≡ false → once x ss ≡ 0) → bit a + once x ss ≡ 0
     go a p true q e later = absurd (let z : _≡_ {A = ℕ} 0 1 = cc in omega arith)
     go true p false q e later = absurd (eqb-false (s .identifier) x q (sym (eqb-true x (s .identifier) p)))
     go false p false q e later = omega (arith, later e)

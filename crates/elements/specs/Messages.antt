@@ -28,10 +28,13 @@ pub data AllRight : List ElementString → Type 0 where
   right-none : AllRight []
   right-more : {string : ElementString} {strings : List ElementString} → Right string → AllRight strings → AllRight (string ∷ strings)
 
+abbrev pub usedIn : List ElementString → List ℕ
+usedIn strings = map (λ s. s .identifier) strings
+
 -- no identifier occurs twice
 pub data Different : List ElementString → Type 0 where
   different-none : Different []
-  different-more : {string : ElementString} {strings : List ElementString} → among (map (λ s. s .identifier) strings) (string .identifier) ≡ false → Different strings → Different (string ∷ strings)
+  different-more : {string : ElementString} {strings : List ElementString} → among (usedIn strings) (string .identifier) ≡ false → Different strings → Different (string ∷ strings)
 
 abbrev pub closingOf : Option Kind → List ℕ
 closingOf (some kind) = cond (kind .predefined) [] (separator ∷ [])

@@ -3,6 +3,7 @@ ghost use mathlib.Core.Path.{_≡_};
 ghost use Prim.Native.Nat.{_+_, _^_, _<_};
 ghost use lib.ListN.{length};
 ghost use Rattle.elements.specs.Strings.{dataOf, nextAfter};
+use character_set_82::Class;
 use identifiers::Kind;
 
 // How many bytes of data there are at the front of the bytes after an identifier: a predefined length, as far as the message goes, or
@@ -11,7 +12,7 @@ pub fn data_length(kind: Kind, bytes: &[u8]) -> usize
     ensures { λ r. ⌜ r ≡ length (dataOf kind (now (bytes .entry))) ⌝ }
 {
     if !kind.predefined {
-        return character_set_82::first_separator(bytes);
+        return character_set_82::first_not(Class::NoSeparator, bytes);
     }
     if bytes.len() < kind.most {
         return bytes.len();

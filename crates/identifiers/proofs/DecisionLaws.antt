@@ -118,7 +118,7 @@ after-bounds p = go (among (24 ∷ 25 ∷ 40 ∷ 41 ∷ []) p) (eqb p 31)
     go false true = (omega arith, omega arith)
     go false false = (omega arith, omega arith)
 
-pub after-low : (p : ℕ) → 2 < digitsAfter p → 10 ≤ p
+after-low : (p : ℕ) → 2 < digitsAfter p → 10 ≤ p
 unfolding digitsAfter placeIn firstNot
 after-low p h = go (leb 10 p) refl
   where

@@ -3,7 +3,7 @@
 --   ListedLaws     the listed identifiers; none begins with another's digits
 --   SpelledLaws    an identifier and its digits give one another
 --   DecisionLaws   the first two digits decide how many there are, so one look finds the row
---   RowLaws        a row by its place in the table; a number between the listed ones has none
+--   RowLaws        a row by its place in the table; a number between the listed ones has none; the kind of a row
 --   DataLaws       the tests of data, read backwards; a kind's sizes
 pub mod ListedLaws
 pub mod SpelledLaws

@@ -19,7 +19,7 @@ use Rattle.identifiers.specs.Identifiers.{measures, table, kindIn, kindO
 use Rattle.laws.proofs.AmongLaws.{among-of-nil, among-more, among-append, all, all-among}
 
 -- a kind is that of a row whose identifiers have the one
-pub kind-among : (rows : List (List ℕ × Kind)) (x : ℕ) (kind : Kind) → kindIn rows x ≡ some kind → among (identifiersOf rows) x ≡ true
+kind-among : (rows : List (List ℕ × Kind)) (x : ℕ) (kind : Kind) → kindIn rows x ≡ some kind → among (identifiersOf rows) x ≡ true
 unfolding kindIn identifiersOf
 kind-among [] x kind e = absurd (let z : _≡_ {A = ℕ} 0 1 = cc in omega arith)
 kind-among (row ∷ rows) x kind e = among-append (row .0) (identifiersOf rows) x ∙ go (among (row .0) x) e (kind-among rows x kind)
@@ -28,22 +28,9 @@ kind-among (row ∷ rows) x kind e = among-append (row .0) (identifiersOf rows) 
     go true e later = refl
     go false e later = later e
 
-pub no-kind-among : (rows : List (List ℕ × Kind)) (x : ℕ) → kindIn rows x ≡ none → among (identifiersOf rows) x ≡ false
-unfolding kindIn identifiersOf
-no-kind-among [] x e = among-of-nil x
-no-kind-among (row ∷ rows) x e = among-append (row .0) (identifiersOf rows) x ∙ go (among (row .0) x) e (no-kind-among rows x)
-  where
-    go : (b : Bool) → cond b (some (row .1)) (kindIn rows x) ≡ none → (kindIn rows x ≡ none → among (identifiersOf rows) x ≡ false) → (b || among (identifiersOf rows) x) ≡ false
-    go true e later = absurd (let z : _≡_ {A = ℕ} 0 1 = cc in omega arith)
-    go false e later = later e
-
 pub listed-if-kind : (x : ℕ) (kind : Kind) → kindOf x ≡ some kind → among listed x ≡ true
 unfolding kindOf listed
 listed-if-kind x kind e = kind-among table x kind e
-
-pub unlisted-if-none : (x : ℕ) → kindOf x ≡ none → among listed x ≡ false
-unfolding kindOf listed
-unlisted-if-none x e = no-kind-among table x e
 
 -- what a test of every row of the table, computed, says of a kind
 abbrev pub allRows : (Kind → Bool) → List (List ℕ × Kind) → Bool

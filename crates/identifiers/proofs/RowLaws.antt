@@ -18,27 +18,27 @@ use Rattle.laws.proofs.AmongLaws.{among-append, one-among, not-among, all, all-
 use Rattle.identifiers.proofs.ListedLaws.{listed-if-kind}
 
 -- the place of an identifier's row, and the kind at a place
-unfoldable pub placeOf : List (List ℕ × Kind) → ℕ → ℕ
-placeOf [] x = zero
-placeOf (row ∷ rows) x = cond (among (row .0) x) zero (suc (placeOf rows x))
+unfoldable pub placeInTable : List (List ℕ × Kind) → ℕ → ℕ
+placeInTable [] x = zero
+placeInTable (row ∷ rows) x = cond (among (row .0) x) zero (suc (placeInTable rows x))
 
 abbrev pub kindAt : List (List ℕ × Kind) → ℕ → Option Kind
 kindAt [] k = none
 kindAt (row ∷ rows) zero = some (row .1)
 kindAt (row ∷ rows) (suc k) = kindAt rows k
 
-kind-by-place : (rows : List (List ℕ × Kind)) (x : ℕ) → kindIn rows x ≡ kindAt rows (placeOf rows x)
-unfolding kindIn placeOf
+kind-by-place : (rows : List (List ℕ × Kind)) (x : ℕ) → kindIn rows x ≡ kindAt rows (placeInTable rows x)
+unfolding kindIn placeInTable
 kind-by-place [] x = refl
 kind-by-place (row ∷ rows) x = go (among (row .0) x) (kind-by-place rows x)
   where
-    go : (b : Bool) → kindIn rows x ≡ kindAt rows (placeOf rows x) → cond b (some (row .1)) (kindIn rows x) ≡ kindAt (row ∷ rows) (cond b zero (suc (placeOf rows x)))
+    go : (b : Bool) → kindIn rows x ≡ kindAt rows (placeInTable rows x) → cond b (some (row .1)) (kindIn rows x) ≡ kindAt (row ∷ rows) (cond b zero (suc (placeInTable rows x)))
     go true later = refl
     go false later = later
 
 -- in the row at place k, as a test
 abbrev pub inRow : ℕ → ℕ → Bool
-inRow k x = eqb (placeOf table x) k
+inRow k x = eqb (placeInTable table x) k
 
 pub row-at-place : (x k : ℕ) (kind : Kind) → inRow k x ≡ true → kindAt table k ≡ some kind → (result : Kind) → result ≡ kind → Listed x result ≡ rowOf x
 unfolding rowOf kindOf
@@ -80,3 +80,20 @@ pub row-from : (a x : ℕ) → all (λ (y : ℕ). ltb y a || among others y) lis
 unfolding rowOf
 row-from a x t other low =
     sym (ap (withKind x) (no-kind x (not-among-if (λ (y : ℕ). ltb y a || among others y) listed t x (rw (le-ltb x a low, other)))))
+
+-- what a row says of the kind
+pub kind-of-row : (x y : ℕ) (kind : Kind) → rowOf x ≡ Listed y kind → (x ≡ y) × (kindOf x ≡ some kind)
+unfolding rowOf
+kind-of-row x y kind e = go (kindOf x) e
+  where
+    go : (o : Option Kind) → withKind x o ≡ Listed y kind → (x ≡ y) × (o ≡ some kind)
+    go none e = absurd (let z : _≡_ {A = ℕ} 0 1 = cc in omega arith)
+    go (some k) e = (cc, cc)
+
+pub no-kind-of-row : (x : ℕ) → rowOf x ≡ Unlisted → kindOf x ≡ none
+unfolding rowOf
+no-kind-of-row x e = go (kindOf x) e
+  where
+    go : (o : Option Kind) → withKind x o ≡ Unlisted → o ≡ none
+    go none e = refl
+    go (some k) e = absurd (let z : _≡_ {A = ℕ} 0 1 = cc in omega arith)

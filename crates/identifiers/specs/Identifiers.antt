@@ -15,7 +15,7 @@ use Rattle.laws.specs.Among.{among}
 
 -- data of a predefined length
 abbrev pub exactly : ℕ → Content → Kind
-exactly length content = record { predefined = true; least = length; most = length; content = content }
+exactly size content = record { predefined = true; least = size; most = size; content = content }
 
 -- data of variable length
 abbrev pub upTo : ℕ → Content → Kind

@@ -9,6 +9,7 @@ ghost use Rattle.identifiers.specs.Data.{allPass, isNumber, isDate, righ
 ghost use Rattle.identifiers.specs.Rows.{sized};
 use crate::Content;
 use crate::Kind;
+use character_set_82::Class;
 use refusal::Answer;
 
 // Whether the data is right for its kind.
@@ -71,5 +72,5 @@ fn is_digits(bytes: &[u8]) -> bool
 fn is_text(bytes: &[u8]) -> bool
     ensures { λ r. ⌜ r ≡ allPass isOf82 (now (bytes .entry)) ⌝ }
 {
-    character_set_82::first_outside(bytes) == bytes.len()
+    character_set_82::first_not(Class::EightyTwo, bytes) == bytes.len()
 }

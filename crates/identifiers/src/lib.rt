@@ -35,13 +35,13 @@ pub enum Row {
 }
 
 impl Kind {
-    fn exactly(length: usize, content: Content) -> Self
-        ensures { λ r. ⌜ r ≡ exactly length content ⌝ }
+    fn exactly(size: usize, content: Content) -> Self
+        ensures { λ r. ⌜ r ≡ exactly size content ⌝ }
     {
         Self {
             predefined: true,
-            least: length,
-            most: length,
+            least: size,
+            most: size,
             content,
         }
     }
@@ -185,7 +185,7 @@ fn leading_digits(bytes: &[u8]) -> usize
 }
 
 // The number that two digits make.
-pub fn pair_at(bytes: &[u8], at: usize) -> usize
+fn pair_at(bytes: &[u8], at: usize) -> usize
     requires { ⌜ at + 1 < length (now bytes) ⌝ }
     requires { ⌜ isDigit (getD (now bytes) at 0) ≡ true ⌝ }
     requires { ⌜ isDigit (getD (now bytes) (at + 1) 0) ≡ true ⌝ }

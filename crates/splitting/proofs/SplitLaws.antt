@@ -4,14 +4,13 @@ use Prim.Native.Nat.{ℕ, zero, suc, _+_, _≤_, _<_, min}
 use mathlib.Core.Path.{_≡_, refl, sym, ap, _∙_, subst}
 use mathlib.Core.Bool.{Bool, true, false}
 use mathlib.Core.List.{List, [], _∷_, _++_, map, append-nil, append-assoc}
-use mathlib.Core.Option.{none}
-use native.Mathlib.Nat.{add-zero, add-suc, suc-add, le-of-lt}
+use native.Mathlib.Nat.{add-zero, add-suc, suc-add}
 use native.Mathlib.Omega.{arith}
-use lib.ListN.{length, take, drop, set, getD, replicate, length-append, length-take, length-drop, length-map, take-append-drop, drop-of-length-le}
+use lib.ListN.{length, take, drop, set, getD, replicate, length-append, length-take, length-drop, length-map, take-append-drop}
 use lib.Seq.{drop-cons, drop-append-le, append-snoc, set-at}
 use Rattle.refusal.specs.declared.Answer.{Answer}
 use Rattle.refusal.specs.declared.Refusal.{Refusal}
-use Rattle.refusal.specs.declared.Refusal.the-variants.{Identifier, Room}
+use Rattle.refusal.specs.declared.Refusal.the-variants.{Room}
 use Rattle.refusal.specs.Outcome.{Outcome, made, refused}
 use Rattle.refusal.specs.Fills.{Fills}
 use Rattle.refusal.proofs.OutcomeLaws.{bind-made}
@@ -19,22 +18,11 @@ use Rattle.refusal.proofs.FillsLaws.{laying-made, laying-refused, made-of-layin
 use Rattle.elements.specs.declared.Element.{Element}
 use Rattle.splitting.specs.declared.Record.{Record}
 use Rattle.splitting.specs.declared.records.Located.{Located}
-use Rattle.patterns.specs.Patterns.{same}
-use Rattle.identifiers.specs.Identifiers.{measures, table, spelled, firstOf, identifiersOf, listed, identifierIn}
 use Rattle.elements.specs.Strings.{stringAt, tested}
 use Rattle.splitting.specs.Splitting.{recordOf, splits}
 use Rattle.splitting.specs.Records.{blankRecord, planOf, locatedOf}
 use Rattle.elements.proofs.FromRule.{tested-made}
 use Rattle.elements.proofs.WalkLaws.{From, First, first-of, from-start}
-
--- past the end of the message no identifier begins
-no-identifier : identifierIn [] ≡ none
-unfolding identifierIn firstOf listed identifiersOf table measures spelled same
-no-identifier = refl
-
-pub string-past-end : (message : List ℕ) (at : ℕ) → length message < at → stringAt message at ≡ refused (Identifier at)
-unfolding stringAt
-string-past-end message at h = rw (drop-of-length-le message (le-of-lt h), no-identifier)
 
 -- what is found at a place
 abbrev pub foundAt : List ℕ → ℕ → Located
@@ -72,12 +60,12 @@ stored-more message records k h =
     ∙ sym (append-snoc (firstRecords message k) (recordAfter message k) (drop (suc k) records))
 
 -- the rule's strings from where so many turns have come, as records
-first-from : (message : List ℕ) (k : ℕ) (strings : List Element) → From message (placeAfter message k) strings → firstRecords message (k + length strings) ≡ firstRecords message k ++ map recordOf strings
+first-from : (message : List ℕ) (k : ℕ) {used : List ℕ} (strings : List Element) → From message (placeAfter message k) used strings → firstRecords message (k + length strings) ≡ firstRecords message k ++ map recordOf strings
 first-from message k [] f = ap (firstRecords message) (add-zero k) ∙ sym (append-nil (firstRecords message k))
-first-from message k (string ∷ strings) f =
+first-from message k {used} (string ∷ strings) f =
     let a = first-of message (placeAfter message k) (string ∷ strings) f in
     let here : stringAt message (placeAfter message k) ≡ made string = a .here ∙ ap made (cc (a .split)) in
-    let rest = go a (a .string .last) refl here (λ (g : From message (placeAfter message (suc k)) strings). first-from message (suc k) strings g) in
+    let rest = go a (a .string .last) refl here (λ g. first-from message (suc k) strings g) in
     ap (firstRecords message) (add-suc k (length strings) ∙ sym (suc-add k (length strings)))
     ∙ rest
     ∙ append-snoc (firstRecords message k) (recordAfter message k) (map recordOf strings)
@@ -86,14 +74,14 @@ first-from message k (string ∷ strings) f =
     Rest : List Element → Type 0
     Rest rest = firstRecords message (suc k + length rest) ≡ firstRecords message (suc k) ++ map recordOf rest
 
-    go : (a : First message (placeAfter message k) (string ∷ strings)) (last : Bool) → a .string .last ≡ last → stringAt message (placeAfter message k) ≡ made string → (From message (placeAfter message (suc k)) strings → Rest strings) → Rest strings
+    go : (a : First message (placeAfter message k) used (string ∷ strings)) (last : Bool) → a .string .last ≡ last → stringAt message (placeAfter message k) ≡ made string → (From message (placeAfter message (suc k)) (used ++ (a .string .identifier ∷ [])) strings → Rest strings) → Rest strings
     go a true is here later =
         let none : [] ≡ strings = sym (a .ends is) ∙ cc (a .split) in
         subst Rest none (ap (firstRecords message) (add-zero (suc k)) ∙ sym (append-nil (firstRecords message (suc k))))
     go a false is here later =
         let next : a .string .next ≡ placeAfter message (suc k) = sym (ap (λ (o : Outcome Element). locatedOf o .next) (a .here)) in
         let same : a .more ≡ strings = cc (a .split) in
-        later (subst (From message (placeAfter message (suc k))) same (subst (λ (p : ℕ). From message p (a .more)) next (a .goes is)))
+        later (rw (next, same) at (a .goes is))
 
 -- the rule, by what the test of the message came to
 module _ (message : List ℕ) (room : ℕ) where

@@ -56,12 +56,6 @@ pub fn planned(message: &[u8], room: usize) -> Plan
 pub fn locate(message: &[u8], at: usize) -> Located
     ensures { λ r. ⌜ r ≡ locatedOf (stringAt (now (message .entry)) at) ⌝ }
 {
-    if message.len() < at {
-        return Located {
-            string: BLANK,
-            next: 0,
-        };
-    }
     let Found::String(element) = elements::string_at(message, at) else {
         return Located {
             string: BLANK,

@@ -1,7 +1,7 @@
--- `adding::add` meets its promise: what the judge refuses is passed on, and what was composed is the rule's message, which is laid.
-use Prim.Native.Nat.{ℕ, _+_, _≤_, _<_}
+-- `adding::add` meets its promise: what the judge refuses is passed on, and what is composed is the rule's message.
+use Prim.Native.Nat.{ℕ}
 use mathlib.Core.Path.{_≡_, sym, ap, _∙_}
-use mathlib.Core.List.{List}
+use mathlib.Core.List.{List, [], _∷_, _++_}
 use native.Mathlib.Omega.{arith}
 use lib.ListN.{length, take}
 use lib.Seq.{length-take-le}
@@ -9,11 +9,11 @@ use borrow.Author.Needs.{needs}
 use Rattle.refusal.specs.declared.Refusal.the-variants.{Count}
 use Rattle.refusal.specs.Outcome.{made}
 use Rattle.refusal.specs.Fills.{laying}
-use Rattle.refusal.proofs.FillsLaws.{refused-of-answered, made-of-answered, fills-refused, fills-passed, fills-same}
+use Rattle.refusal.proofs.FillsLaws.{refused-of-answer, made-of-answer, fills-refused, fills-passed, fills-same}
+use Rattle.character_set_82.specs.Characters.{separator}
 use Rattle.identifiers.specs.Identifiers.{spelled}
-use Rattle.adding.specs.Adding.{adds}
-use Rattle.adding.specs.Judging.{judged}
-use Rattle.adding.proofs.AddLaws.{withString, judged-bounds, adds-over, adds-beyond, adds-refused, adds-laying}
+use Rattle.adding.specs.Adding.{judged, adds}
+use Rattle.adding.proofs.AddLaws.{Fits, judged-fits, adds-over, adds-beyond, adds-refused, adds-laying}
 use Rattle.adding.proofs.add.Statement.{statement}
 use Rattle.adding.proofs.add.Tie as tie
 
@@ -23,7 +23,7 @@ module _ (c : tie.After-shared-slice-known) where
   buffer = c .before .before .args .buffer .now
 
   abbrev count : ℕ
-  count = c .before .before .args .length
+  count = c .before .before .args .count
 
   abbrev x : ℕ
   x = c .before .before .args .identifier
@@ -52,30 +52,18 @@ module _ (c : tie.Else2) where
   old-long : length old ≡ count lent
   old-long = length-take-le (count lent) (buffer lent) (omega arith)
 
-slice-reshare-prefix-judge : tie.Need-slice-reshare-prefix-judge
-slice-reshare-prefix-judge c = search needs
-
 slice-aggregate-judge : tie.Need-slice-aggregate-judge
 slice-aggregate-judge c = sym (old-long (c .before))
 
 judge-requires : tie.Need-judge-requires
 judge-requires c κs = omega (arith, old-long (c .before))
 
-enum-known-judged : tie.Need-enum-known-judged
-enum-known-judged c = search needs
-
-enum-told : tie.Need-enum-told
-enum-told c = search needs
-
-same-length : tie.Need-same-length
-same-length c = search needs
-
 returns-3 : tie.Need-returns-3
 returns-3 c =
     let answer = c .before .before in
     let at = lent (answer .before .before) in
     let is = c .enum-told .given .1 in
-    let stopped = refused-of-answered _ _ (sym is ∙ answer .judge .ensures) in
+    let stopped = refused-of-answer _ _ (sym is ∙ answer .judge .ensures) in
     fills-passed _ _ _ (answer .judge .result) is
     (adds-refused (buffer at) (count at) (x at) (content at) (omega arith) (omega arith) _ stopped)
 
@@ -93,59 +81,36 @@ module _ (c : tie.After-judged) where
   abbrev n : ℕ
   n = c .judged .given .0 .0
 
-  is-judged : judged (old within) (x at) (content at) ≡ made n
-  is-judged = made-of-answered _ n (sym (c .judged .given .1) ∙ answer .judge .ensures)
+  is-judged : (between : List ℕ) × (judged (old within) (x at) (content at) ≡ made between) × (length between ≡ n)
+  is-judged = made-of-answer _ n (sym (c .judged .given .1) ∙ answer .judge .ensures)
 
-  bounds : (n ≤ 1) × (x at < 10000) × (length (old within) + n + length (spelled (x at)) + length (content at) ≤ 48)
-  bounds = judged-bounds (old within) (x at) (content at) n is-judged
+  abbrev between : List ℕ
+  between = is-judged .0
+
+  fits : Fits (old within) (x at) (content at) between
+  fits = judged-fits (old within) (x at) (content at) between (is-judged .1)
 
   -- the message with the new string
   abbrev message : List ℕ
-  message = withString (old within) n (x at) (content at)
+  message = old within ++ take n (separator ∷ []) ++ spelled (x at) ++ content at
 
   rule : adds (buffer at) (count at) (x at) (content at) ≡ laying message (length (buffer at))
-  rule = adds-laying (buffer at) (count at) (x at) (content at) (omega arith) (omega arith) n is-judged
-
-slice-reshare-prefix-compose : tie.Need-slice-reshare-prefix-compose
-slice-reshare-prefix-compose c = search needs
-
-slice-aggregate-compose : tie.Need-slice-aggregate-compose
-slice-aggregate-compose c = sym (old-long (within (c .before .before)))
-
-slice-aggregate-compose-2 : tie.Need-slice-aggregate-compose-2
-slice-aggregate-compose-2 c = search needs
-
--- where the message is composed
-module _ (c : tie.After-message) where
-  abbrev known : tie.After-judged
-  known = c .before .before .before
+  rule =
+      let is : between ≡ take n (separator ∷ []) = fits .is-take ∙ ap (λ (k : ℕ). take k (separator ∷ [])) (is-judged .2) in
+      rw (← is) (adds-laying (buffer at) (count at) (x at) (content at) (omega arith) (omega arith) between (is-judged .1))
 
 compose-requires : tie.Need-compose-requires
 compose-requires c κs =
-    let b = bounds (known c) in
-    (b .0, (b .1, b .2))
-
-array-share-prefix-message : tie.Need-array-share-prefix-message
-array-share-prefix-message c = omega (arith, bounds (known (c .before .before)), c .before .compose .ensures .0)
-
-slice-aggregate-lay : tie.Need-slice-aggregate-lay
-slice-aggregate-lay c = sym (length-take-le (c .before .before .compose .result) _ (array-share-prefix-message (c .before)))
-
-lay-requires : tie.Need-lay-requires
-lay-requires c κs = search needs
-
-same-length-2 : tie.Need-same-length-2
-same-length-2 c = search needs
+    let j = c .before .before in
+    let f = fits j in
+    let long = is-judged j .2 in
+    (omega arith, (omega (arith, f .short), (f .small, omega (arith, f .most, old-long (within j)))))
 
 returns-4 : tie.Need-returns-4
 returns-4 c =
-    let laid = c .before .before in
-    let shared = laid .before .before in
-    let composed = shared .before .before in
-    let j = known (composed .before) in
-    let room = length (buffer (at j)) in
-    let same = sym (ap (λ (m : List ℕ). laying m room) {y = message j} (composed .compose .ensures .1)) in
-    fills-same _ _ (buffer (at j)) _ _ (rule j ∙ same) (laid .lay .ensures)
+    let composed = c .before .before in
+    let j = composed .before .before .before in
+    fills-same _ _ (buffer (at j)) _ _ (rule j) (composed .compose .ensures)
 
 pub add-spec : {M : Type 1} → statement M
 add-spec =
@@ -153,19 +118,13 @@ add-spec =
     (tie.spec
     returns
     returns-2
-    slice-reshare-prefix-judge
+    (λ c. search needs)
     slice-aggregate-judge
     judge-requires
-    enum-known-judged
-    enum-told
-    same-length
+    (λ c. search needs)
+    (λ c. search needs)
+    (λ c. search needs)
     returns-3
-    slice-reshare-prefix-compose
-    slice-aggregate-compose
-    slice-aggregate-compose-2
     compose-requires
-    array-share-prefix-message
-    slice-aggregate-lay
-    lay-requires
-    same-length-2
+    (λ c. search needs)
     returns-4)

@@ -14,9 +14,6 @@ use Rattle.asking.proofs.AskLaws.{asked-stands, part-within}
 use Rattle.asking.proofs.ask.Statement.{statement}
 use Rattle.asking.proofs.ask.Tie as tie
 
-find-requires : tie.Need-find-requires
-find-requires c κs = search needs
-
 -- the string was looked for
 module _ (c : tie.After-find) where
   abbrev message : List ℕ
@@ -24,15 +21,6 @@ module _ (c : tie.After-find) where
 
   abbrev x : ℕ
   x = c .before .before .args .identifier
-
-enum-known-element : tie.Need-enum-known-element
-enum-known-element c = search needs
-
-enum-told : tie.Need-enum-told
-enum-told c = search needs
-
-slice-aggregate-result : tie.Need-slice-aggregate-result
-slice-aggregate-result c = search needs
 
 returns : tie.Need-returns
 returns c =
@@ -56,12 +44,6 @@ module _ (c : tie.After-element) where
 add-end : tie.Need-add-end
 add-end c = omega (arith, inside (c .before .before))
 
-sub-result : tie.Need-sub-result
-sub-result c = search needs
-
-part-result-start : tie.Need-part-result-start
-part-result-start c = search needs
-
 part-result-end : tie.Need-part-result-end
 part-result-end c = inside (c .before .before)
 
@@ -75,13 +57,13 @@ pub ask-spec : {M : Type 1} → statement M
 ask-spec =
     tie.close
     (tie.spec
-    find-requires
-    enum-known-element
-    enum-told
-    slice-aggregate-result
+    (λ c κs. search needs)
+    (λ c. search needs)
+    (λ c. search needs)
+    (λ c. search needs)
     returns
     add-end
-    sub-result
-    part-result-start
+    (λ c. search needs)
+    (λ c. search needs)
     part-result-end
     returns-2)

@@ -9,19 +9,10 @@ use Rattle.elements.proofs.CountLaws.{found-string, found-refused}
 use Rattle.asking.proofs.asked.Statement.{statement}
 use Rattle.asking.proofs.asked.Tie as tie
 
-find-requires : tie.Need-find-requires
-find-requires c κs = search needs
-
 -- what was asked for, where it was looked for
 module _ (c : tie.After-find) where
   abbrev answer : Outcome Element
   answer = asked (c .before .before .args .message .now) (c .before .before .args .identifier)
-
-enum-known-found : tie.Need-enum-known-found
-enum-known-found c = search needs
-
-enum-known-found-2 : tie.Need-enum-known-found-2
-enum-known-found-2 c = search needs
 
 returns : tie.Need-returns
 returns c =
@@ -37,4 +28,4 @@ returns-2 c =
 
 pub asked-spec : {M : Type 1} → statement M
 asked-spec =
-    tie.close (tie.spec find-requires enum-known-found enum-known-found-2 returns returns-2)
+    tie.close (tie.spec (λ c κs. search needs) (λ c. search needs) (λ c. search needs) returns returns-2)

@@ -40,17 +40,8 @@ highest : (k : ℕ) → k < 128 → false ≡ isOf82 (128 + k)
 unfolding agree isOf82 eightyTwo placeIn firstNot
 highest k h = agreed _ _ (at-entry (λ (k x : ℕ). agree false (isOf82 (128 + k))) 0 (run 0 128) tt k h)
 
-shr-result : tie.Need-shr-result
-shr-result c = search needs
-
 returns : tie.Need-returns
 returns c = low (c .before .args .byte) (omega arith)
-
-cast-result : tie.Need-cast-result
-cast-result c = search needs
-
-shr-result-2 : tie.Need-shr-result-2
-shr-result-2 c = search needs
 
 returns-2 : tie.Need-returns-2
 returns-2 c =
@@ -66,4 +57,4 @@ returns-3 c =
 
 pub is-of-82-spec : {M : Type 1} → statement M
 is-of-82-spec =
-    tie.close (tie.spec shr-result returns cast-result shr-result-2 returns-2 returns-3)
+    tie.close (tie.spec (λ c. search needs) returns (λ c. search needs) (λ c. search needs) returns-2 returns-3)

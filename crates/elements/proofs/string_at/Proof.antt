@@ -15,28 +15,21 @@ use Rattle.identifiers.specs.Identifiers.{kindOf, spelled, identifierIn}
 use Rattle.identifiers.specs.Data.{rightData}
 use Rattle.elements.specs.Strings.{dataOf}
 use Rattle.identifiers.specs.Rows.{rowAt}
-use Rattle.elements.specs.Calls.{foundOf}
+use Rattle.elements.specs.Found.{foundOf}
 use Rattle.identifiers.proofs.DataLaws.{sized-if-listed}
-use Rattle.elements.proofs.StringLaws.{data-within, data-part, row-listed, rest-of, string-unlisted, begin-within, string-wrong, string-right, element-is}
+use Rattle.elements.proofs.StringLaws.{data-within, data-part, string-past-end, row-listed, rest-of, string-unlisted, begin-within, string-wrong, string-right, element-is}
 use Rattle.elements.proofs.string_at.Statement.{statement}
 use Rattle.elements.proofs.string_at.Tie as tie
 
-sub-row-at : tie.Need-sub-row-at
-sub-row-at c = search needs
-
-part-row-at-start : tie.Need-part-row-at-start
-part-row-at-start c = search needs
-
-part-row-at-end : tie.Need-part-row-at-end
-part-row-at-end c = search needs
-
-row-at-requires : tie.Need-row-at-requires
-row-at-requires c κs = search needs
+returns : tie.Need-returns
+returns c =
+    let args = c .before .before .args in
+    sym (ap foundOf (string-past-end (args .message .now) (args .at) (c .if1 .taken)))
 
 -- the row at the place was looked for
 module _ (c : tie.After-row-at) where
   abbrev start : tie.Start
-  start = c .before .before .before
+  start = c .before .before .before .before
 
   abbrev message : List ℕ
   message = start .args .message .now
@@ -47,19 +40,10 @@ module _ (c : tie.After-row-at) where
   row-here : rowAt (drop at message) ≡ c .row-at .result
   row-here = ap rowAt (sym (rest-of message at)) ∙ sym (c .row-at .ensures)
 
-enum-known-identifier : tie.Need-enum-known-identifier
-enum-known-identifier c = search needs
-
-enum-told : tie.Need-enum-told
-enum-told c = search needs
-
-returns : tie.Need-returns
-returns c =
+returns-2 : tie.Need-returns-2
+returns-2 c =
     let r = c .before .before in
     rw (string-unlisted (message r) (at r) (row-here r ∙ c .enum-told .given .1))
-
-digits-of-requires : tie.Need-digits-of-requires
-digits-of-requires c κs = search needs
 
 -- the identifier and its kind are known
 module _ (c : tie.After-digits-of) where
@@ -89,7 +73,7 @@ module _ (c : tie.After-digits-of) where
   begin-is = ap (λ (n : ℕ). at row + n) (c .digits-of .ensures)
 
   inside : begin ≤ length (message row)
-  inside = omega (arith, begin-is, begin-within (message row) (at row) x kind (found .0) (found .1) (start row .pre))
+  inside = omega (arith, begin-is, begin-within (message row) (at row) x kind (found .0) (found .1) (omega arith))
 
 add-begin : tie.Need-add-begin
 add-begin c = omega (arith, inside c)
@@ -99,12 +83,6 @@ sub-data-length c = inside c
 
 part-data-length-start : tie.Need-part-data-length-start
 part-data-length-start c = inside c
-
-part-data-length-end : tie.Need-part-data-length-end
-part-data-length-end c = search needs
-
-data-length-requires : tie.Need-data-length-requires
-data-length-requires c κs = search needs
 
 -- the data's end is known
 module _ (c : tie.After-data-length) where
@@ -128,12 +106,6 @@ module _ (c : tie.After-data-length) where
 add-end : tie.Need-add-end
 add-end c = omega (arith, end-inside c)
 
-sub-right-data : tie.Need-sub-right-data
-sub-right-data c = search needs
-
-part-right-data-start : tie.Need-part-right-data-start
-part-right-data-start c = search needs
-
 part-right-data-end : tie.Need-part-right-data-end
 part-right-data-end c = end-inside c
 
@@ -153,24 +125,21 @@ module _ (c : tie.After-right-data) where
   judged : c .right-data .result ≡ rightData (kind begun) (dataOf (kind begun) (rest begun))
   judged = c .right-data .ensures ∙ ap (rightData (kind begun)) (part-is ended)
 
-returns-2 : tie.Need-returns-2
-returns-2 c =
+returns-3 : tie.Need-returns-3
+returns-3 c =
     let b = begun (c .before) in
-    let wrong = sym (judged (c .before)) ∙ not-true _ (c .if1 .taken) in
+    let wrong = sym (judged (c .before)) ∙ not-true _ (c .if2 .taken) in
     rw (string-wrong (message (row b)) (at (row b)) (x b) (kind b) (found b .0) (found b .1) (begin b) (begin-is b) wrong)
-
-sub-t14 : tie.Need-sub-t14
-sub-t14 c = search needs
 
 next-after-requires : tie.Need-next-after-requires
 next-after-requires c κs = omega (arith, end-inside (c .before .before .before))
 
-returns-3 : tie.Need-returns-3
-returns-3 c =
+returns-4 : tie.Need-returns-4
+returns-4 c =
     let j = c .before .before in
     let d = ended j in
     let b = begun j in
-    let right = sym (judged j) ∙ not-false _ (c .before .if1 .left) in
+    let right = sym (judged j) ∙ not-false _ (c .before .if2 .left) in
     ap String (element-is (bytes d) (x b) (kind b) (begin b) (d .data-length .result) (c .next-after .result) (count-is d) (c .next-after .ensures))
     ∙ sym (ap foundOf (string-right (bytes d) (at (row b)) (x b) (kind b) (found b .0) (found b .1) (begin b) (begin-is b) right))
 
@@ -178,25 +147,26 @@ pub string-at-spec : {M : Type 1} → statement M
 string-at-spec =
     tie.close
     (tie.spec
-    sub-row-at
-    part-row-at-start
-    part-row-at-end
-    row-at-requires
-    enum-known-identifier
-    enum-told
     returns
-    digits-of-requires
+    (λ c. search needs)
+    (λ c. search needs)
+    (λ c. search needs)
+    (λ c κs. search needs)
+    (λ c. search needs)
+    (λ c. search needs)
+    returns-2
+    (λ c κs. search needs)
     add-begin
     sub-data-length
     part-data-length-start
-    part-data-length-end
-    data-length-requires
+    (λ c. search needs)
+    (λ c κs. search needs)
     add-end
-    sub-right-data
-    part-right-data-start
+    (λ c. search needs)
+    (λ c. search needs)
     part-right-data-end
     right-data-requires
-    returns-2
-    sub-t14
+    returns-3
+    (λ c. search needs)
     next-after-requires
-    returns-3)
+    returns-4)

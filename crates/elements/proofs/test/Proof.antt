@@ -28,14 +28,11 @@ module _ (c : tie.Else2) where
   abbrev message : List ℕ
   message = c .before .before .before .args .message .now
 
-first-bad-requires : tie.Need-first-bad-requires
-first-bad-requires c κs = search needs
-
 returns-3 : tie.Need-returns-3
 unfolding tested
 returns-3 c =
     let bytes = message (c .before .before) in
-    let place : c .before .first-bad .result ≡ firstNot isMessageByte bytes = c .before .first-bad .ensures in
+    let place : c .before .first-not .result ≡ firstNot isMessageByte bytes = c .before .first-not .ensures in
     simp (le-leb 1 (length bytes) (omega arith), le-leb (length bytes) 48 (omega arith), ne-eqb (firstNot isMessageByte bytes) (length bytes) (omega arith))
     (ap (λ (p : ℕ). Refused (Character p)) place)
 
@@ -47,10 +44,10 @@ unfolding tested
 returns-4 c =
     let looked = c .before .before in
     let bytes = message (looked .before) in
-    let all : firstNot isMessageByte bytes ≡ length bytes = omega (arith, looked .first-bad .ensures, first-within isMessageByte bytes) in
+    let all : firstNot isMessageByte bytes ≡ length bytes = omega (arith, looked .first-not .ensures, first-within isMessageByte bytes) in
     simp (le-leb 1 (length bytes) (omega arith), le-leb (length bytes) 48 (omega arith), eq-eqb (firstNot isMessageByte bytes) (length bytes) all)
     (c .count .ensures)
 
 pub test-spec : {M : Type 1} → statement M
 test-spec =
-    tie.close (tie.spec returns returns-2 first-bad-requires returns-3 count-requires returns-4)
+    tie.close (tie.spec returns returns-2 (λ c κs. search needs) returns-3 count-requires returns-4)

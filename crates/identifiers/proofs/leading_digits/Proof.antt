@@ -9,9 +9,6 @@ use Rattle.digits.specs.Digit.{isDigit}
 use Rattle.identifiers.proofs.leading_digits.Statement.{statement}
 use Rattle.identifiers.proofs.leading_digits.Tie as tie
 
-first-other-requires : tie.Need-first-other-requires
-first-other-requires c κs = search needs
-
 returns : tie.Need-returns
 returns c =
     let bytes = c .before .before .before .args .bytes .now in
@@ -20,11 +17,5 @@ returns c =
 slice-aggregate-first-other : tie.Need-slice-aggregate-first-other
 slice-aggregate-first-other c = simp length-take (omega arith)
 
-first-other-requires-2 : tie.Need-first-other-requires-2
-first-other-requires-2 c κs = search needs
-
-returns-2 : tie.Need-returns-2
-returns-2 c = search needs
-
 pub leading-digits-spec : {M : Type 1} → statement M
-leading-digits-spec = tie.close (tie.spec first-other-requires returns slice-aggregate-first-other first-other-requires-2 returns-2)
+leading-digits-spec = tie.close (tie.spec (λ c κs. search needs) returns slice-aggregate-first-other (λ c κs. search needs) (λ c. search needs))

@@ -9,9 +9,6 @@ use Rattle.digits.proofs.DigitLaws.{digit-range}
 use Rattle.identifiers.proofs.pair_at.Statement.{statement}
 use Rattle.identifiers.proofs.pair_at.Tie as tie
 
-shared-slice-read-value-of : tie.Need-shared-slice-read-value-of
-shared-slice-read-value-of c = search needs
-
 value-of-requires : tie.Need-value-of-requires
 value-of-requires c κs = digit-range _ (c .before .before .pre .1 .0) .0
 
@@ -30,12 +27,6 @@ mul-result : tie.Need-mul-result
 mul-result c =
     let range = digit-range (getD (bytes c) (at c) 0) (start c .pre .1 .0) in
     omega (arith, c .value-of .ensures)
-
-add-value-of : tie.Need-add-value-of
-add-value-of c = search needs
-
-shared-slice-read-value-of-2 : tie.Need-shared-slice-read-value-of-2
-shared-slice-read-value-of-2 c = search needs
 
 value-of-requires-2 : tie.Need-value-of-requires-2
 value-of-requires-2 c κs = digit-range _ (start (c .before) .pre .1 .1) .0
@@ -61,11 +52,11 @@ pub pair-at-spec : {M : Type 1} → statement M
 pair-at-spec =
     tie.close
     (tie.spec
-    shared-slice-read-value-of
+    (λ c. search needs)
     value-of-requires
     mul-result
-    add-value-of
-    shared-slice-read-value-of-2
+    (λ c. search needs)
+    (λ c. search needs)
     value-of-requires-2
     add-result
     returns)

@@ -14,9 +14,6 @@ use Rattle.identifiers.proofs.DecisionLaws.{too-short, after-bounds, ru
 use Rattle.identifiers.proofs.row_at.Statement.{statement}
 use Rattle.identifiers.proofs.row_at.Tie as tie
 
-leading-digits-requires : tie.Need-leading-digits-requires
-leading-digits-requires c κs = search needs
-
 returns : tie.Need-returns
 returns c =
     let bytes = c .before .before .before .args .bytes .now in
@@ -27,9 +24,6 @@ pair-at-requires c κs =
     let bytes = c .before .before .before .args .bytes .now in
     let run : c .before .leading-digits .result ≡ firstNot isDigit (take 4 bytes) = c .before .leading-digits .ensures in
     (omega (arith, run-within bytes), (leading-digit bytes 0 (omega arith), leading-digit bytes 1 (omega arith)))
-
-digits-after-requires : tie.Need-digits-after-requires
-digits-after-requires c κs = search needs
 
 -- the count of digits is known
 module _ (c : tie.After-digits-after) where
@@ -51,9 +45,6 @@ module _ (c : tie.After-digits-after) where
 returns-2 : tie.Need-returns-2
 returns-2 c = sym (too-short (bytes (c .before)) (omega (arith, run (c .before), count-is (c .before))))
 
-row-of-requires : tie.Need-row-of-requires
-row-of-requires c κs = search needs
-
 returns-3 : tie.Need-returns-3
 returns-3 c =
     let at = c .before .before .before in
@@ -63,9 +54,6 @@ returns-3 c =
 module _ (c : tie.Else3) where
   abbrev counted : tie.After-digits-after
   counted = c .before .before
-
-mul-row-of : tie.Need-mul-row-of
-mul-row-of c = search needs
 
 shared-slice-read-value-of : tie.Need-shared-slice-read-value-of
 shared-slice-read-value-of c =
@@ -83,9 +71,6 @@ add-row-of c =
     let digit = digit-range (getD (bytes at) 2 0) (leading-digit (bytes at) 2 (omega (arith, run at))) in
     omega (arith, c .value-of .ensures, at .before .pair-at .ensures .1)
 
-row-of-requires-2 : tie.Need-row-of-requires-2
-row-of-requires-2 c κs = search needs
-
 returns-4 : tie.Need-returns-4
 returns-4 c =
     let three = c .before .before .before in
@@ -94,20 +79,11 @@ returns-4 c =
     ∙ ap₂ (λ (p d : ℕ). rowOf (10 * p + d)) (pair-is at) (c .before .value-of .ensures)
     ∙ sym (decided-by-three (bytes at) (omega (arith, run at)) (sym (count-is at) ∙ three .if4 .taken))
 
-mul-row-of-2 : tie.Need-mul-row-of-2
-mul-row-of-2 c = search needs
-
 pair-at-requires-2 : tie.Need-pair-at-requires-2
 pair-at-requires-2 c κs =
     let at = counted (c .before) in
     let four : 4 ≤ firstNot isDigit (take 4 (bytes at)) = omega (arith, run at, count-is at, after-bounds (pairAt (bytes at) 0) .0) in
     (omega (arith, run-within (bytes at)), (leading-digit (bytes at) 2 (omega arith), leading-digit (bytes at) 3 (omega arith)))
-
-add-row-of-2 : tie.Need-add-row-of-2
-add-row-of-2 c = search needs
-
-row-of-requires-3 : tie.Need-row-of-requires-3
-row-of-requires-3 c κs = search needs
 
 returns-5 : tie.Need-returns-5
 returns-5 c =
@@ -121,21 +97,21 @@ pub row-at-spec : {M : Type 1} → statement M
 row-at-spec =
     tie.close
     (tie.spec
-    leading-digits-requires
+    (λ c κs. search needs)
     returns
     pair-at-requires
-    digits-after-requires
+    (λ c κs. search needs)
     returns-2
-    row-of-requires
+    (λ c κs. search needs)
     returns-3
-    mul-row-of
+    (λ c. search needs)
     shared-slice-read-value-of
     value-of-requires
     add-row-of
-    row-of-requires-2
+    (λ c κs. search needs)
     returns-4
-    mul-row-of-2
+    (λ c. search needs)
     pair-at-requires-2
-    add-row-of-2
-    row-of-requires-3
+    (λ c. search needs)
+    (λ c κs. search needs)
     returns-5)

@@ -12,60 +12,30 @@ use Rattle.identifiers.specs.declared.Content.the-variants.{DigitsWithCh
 use Rattle.laws.specs.Among.{placeIn, among}
 use Rattle.identifiers.specs.Identifiers.{exactly, upTo, measures, table, identifiersOf, listed}
 use Rattle.laws.proofs.AmongLaws.{in-run, all-among}
-use Rattle.identifiers.proofs.RowLaws.{placeOf, inRow, row-at-place, row-of-keys, not-others, row-of-gap, row-from}
+use Rattle.identifiers.proofs.RowLaws.{placeInTable, inRow, row-at-place, row-of-keys, not-others, row-of-gap, row-from}
 use Rattle.identifiers.proofs.row_of.Statement.{statement}
 use Rattle.identifiers.proofs.row_of.Tie as tie
 
-exactly-requires : tie.Need-exactly-requires
-exactly-requires c κs = search needs
-
-exactly-requires-2 : tie.Need-exactly-requires-2
-exactly-requires-2 c κs = search needs
-
-up-to-requires : tie.Need-up-to-requires
-up-to-requires c κs = search needs
-
-up-to-requires-2 : tie.Need-up-to-requires-2
-up-to-requires-2 c κs = search needs
-
-exactly-requires-3 : tie.Need-exactly-requires-3
-exactly-requires-3 c κs = search needs
-
-exactly-requires-4 : tie.Need-exactly-requires-4
-exactly-requires-4 c κs = search needs
-
-exactly-requires-5 : tie.Need-exactly-requires-5
-exactly-requires-5 c κs = search needs
-
-is-measure-requires : tie.Need-is-measure-requires
-is-measure-requires c κs = search needs
-
-exactly-requires-6 : tie.Need-exactly-requires-6
-exactly-requires-6 c κs = search needs
-
-up-to-requires-3 : tie.Need-up-to-requires-3
-up-to-requires-3 c κs = search needs
-
 returns : tie.Need-returns
-unfolding placeOf table measures placeIn firstNot
+unfolding placeInTable table measures placeIn firstNot
 returns c =
     let x = c .before .before .args .identifier in
     row-at-place x 0 (exactly 18 DigitsWithCheck) (row-of-keys (0 ∷ []) 0 refl x (c .before .match .keys1)) refl (c .exactly .result) (c .exactly .ensures)
 
 returns-2 : tie.Need-returns-2
-unfolding placeOf table measures placeIn firstNot
+unfolding placeInTable table measures placeIn firstNot
 returns-2 c =
     let x = c .before .before .args .identifier in
     row-at-place x 4 (exactly 2 Digits) (row-of-keys (20 ∷ []) 4 refl x (c .before .match .keys2)) refl (c .exactly2 .result) (c .exactly2 .ensures)
 
 returns-3 : tie.Need-returns-3
-unfolding placeOf table measures placeIn firstNot
+unfolding placeInTable table measures placeIn firstNot
 returns-3 c =
     let x = c .before .before .args .identifier in
     row-at-place x 6 (upTo 8 Digits) (row-of-keys (30 ∷ 37 ∷ []) 6 refl x (c .before .match .keys3)) refl (c .up-to .result) (c .up-to .ensures)
 
 returns-4 : tie.Need-returns-4
-unfolding placeOf table measures placeIn firstNot
+unfolding placeInTable table measures placeIn firstNot
 returns-4 c =
     let x = c .before .before .args .identifier in
     row-at-place x 7 (upTo 20 Text) (row-of-keys (10 ∷ 21 ∷ []) 7 refl x (c .before .match .keys4)) refl (c .up-to2 .result) (c .up-to2 .ensures)
@@ -91,7 +61,7 @@ module _ (c : tie.After-is-measure) where
   no-key = c .before .before
 
 returns-5 : tie.Need-returns-5
-unfolding placeOf table measures placeIn firstNot
+unfolding placeInTable table measures placeIn firstNot
 returns-5 c =
     let x = identifier (c .before .before .before) in
     let other : x ≡ 0 → ⊥ = c .before .before .before .match .rest .0 .0 .0 .0 .1 in
@@ -100,7 +70,7 @@ returns-5 c =
     refl (c .exactly3 .result) (c .exactly3 .ensures)
 
 returns-6 : tie.Need-returns-6
-unfolding placeOf table measures placeIn firstNot
+unfolding placeInTable table measures placeIn firstNot
 returns-6 c =
     let x = identifier (from-242 (c .before .before .before)) in
     row-at-place x 2 (exactly 13 DigitsWithCheck)
@@ -108,7 +78,7 @@ returns-6 c =
     refl (c .exactly4 .result) (c .exactly4 .ensures)
 
 returns-7 : tie.Need-returns-7
-unfolding placeOf table measures placeIn firstNot
+unfolding placeInTable table measures placeIn firstNot
 returns-7 c =
     let x = identifier (from-10 (c .before .before)) in
     let other : x ≡ 10 → ⊥ = λ e. from-10 (c .before .before) .match .rest .0 .1 (inl e) in
@@ -118,7 +88,7 @@ returns-7 c =
     refl (c .exactly5 .result) (c .exactly5 .ensures)
 
 returns-8 : tie.Need-returns-8
-unfolding placeOf table measures placeIn firstNot
+unfolding placeInTable table measures placeIn firstNot
 returns-8 c =
     let x = identifier (no-key (c .before .before)) in
     let measure : among measures x ≡ true = sym (c .before .before .is-measure .ensures) ∙ c .before .if10 .taken in
@@ -141,7 +111,7 @@ returns-9 c =
     (c .before .before .if1 .came)
 
 returns-10 : tie.Need-returns-10
-unfolding placeOf table measures placeIn firstNot
+unfolding placeInTable table measures placeIn firstNot
 returns-10 c =
     let x = c .before .before .args .identifier in
     row-at-place x 8 (upTo 30 Text)
@@ -153,16 +123,16 @@ pub row-of-spec : {M : Type 1} → statement M
 row-of-spec =
     tie.close
     (tie.spec
-    exactly-requires
-    exactly-requires-2
-    up-to-requires
-    up-to-requires-2
-    exactly-requires-3
-    exactly-requires-4
-    exactly-requires-5
-    is-measure-requires
-    exactly-requires-6
-    up-to-requires-3
+    (λ c κs. search needs)
+    (λ c κs. search needs)
+    (λ c κs. search needs)
+    (λ c κs. search needs)
+    (λ c κs. search needs)
+    (λ c κs. search needs)
+    (λ c κs. search needs)
+    (λ c κs. search needs)
+    (λ c κs. search needs)
+    (λ c κs. search needs)
     returns
     returns-2
     returns-3

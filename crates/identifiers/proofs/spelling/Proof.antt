@@ -5,26 +5,14 @@ use Rattle.identifiers.specs.Identifiers.{spelled}
 use Rattle.identifiers.proofs.spelling.Statement.{statement}
 use Rattle.identifiers.proofs.spelling.Tie as tie
 
-digit-byte-requires : tie.Need-digit-byte-requires
-digit-byte-requires c κs = search needs
-
-digit-byte-requires-2 : tie.Need-digit-byte-requires-2
-digit-byte-requires-2 c κs = search needs
-
 returns : tie.Need-returns
 unfolding spelled
 returns c = rw (lt-ltb _ 100 (c .before .if1 .taken), c .digit-byte2 .ensures, c .before .before .digit-byte .ensures)
-
-digit-byte-requires-3 : tie.Need-digit-byte-requires-3
-digit-byte-requires-3 c κs = search needs
 
 -- an identifier of three digits or more, with its last two
 module _ (c : tie.After-digit-byte3) where
   abbrev last : tie.After-digit-byte
   last = c .before .before
-
-digit-byte-requires-4 : tie.Need-digit-byte-requires-4
-digit-byte-requires-4 c κs = search needs
 
 returns-2 : tie.Need-returns-2
 unfolding spelled
@@ -33,12 +21,6 @@ returns-2 c =
     let from-100 = le-ltb _ 100 (two .before .if1 .left) in
     let below-1000 = lt-ltb _ 1000 (c .before .if2 .taken) in
     rw (from-100, below-1000, c .digit-byte4 .ensures, two .digit-byte3 .ensures, last two .digit-byte .ensures)
-
-digit-byte-requires-5 : tie.Need-digit-byte-requires-5
-digit-byte-requires-5 c κs = search needs
-
-digit-byte-requires-6 : tie.Need-digit-byte-requires-6
-digit-byte-requires-6 c κs = search needs
 
 returns-3 : tie.Need-returns-3
 unfolding spelled
@@ -52,12 +34,12 @@ pub spelling-spec : {M : Type 1} → statement M
 spelling-spec =
     tie.close
     (tie.spec
-    digit-byte-requires
-    digit-byte-requires-2
+    (λ c κs. search needs)
+    (λ c κs. search needs)
     returns
-    digit-byte-requires-3
-    digit-byte-requires-4
+    (λ c κs. search needs)
+    (λ c κs. search needs)
     returns-2
-    digit-byte-requires-5
-    digit-byte-requires-6
+    (λ c κs. search needs)
+    (λ c κs. search needs)
     returns-3)

@@ -1,83 +1,55 @@
--- `adding::composing::put` meets its contract: after i turns the list holds, up to the place and i more, what it held and i bytes.
-use Prim.Native.Nat.{ℕ, suc, _+_, _-_, _≤_}
+-- `adding::composing::put` meets its contract: bytes that are laid in a part of as many places are that part.
+use Prim.Native.Nat.{ℕ, _+_, _-_}
 use mathlib.Core.Path.{_≡_, refl, sym, ap, _∙_}
-use mathlib.Core.List.{List, [], _∷_, _++_, append-assoc, append-nil}
-use native.Mathlib.Nat.{add-zero}
-use native.Mathlib.Numerals.{add-one}
+use mathlib.Core.List.{List, _++_, append-assoc, append-nil}
 use native.Mathlib.Omega.{arith}
-use lib.ListN.{length, getD, set, take, length-set}
-use lib.Seq.{take-suc, take-suc-set, take-length}
+use lib.ListN.{length, take, drop, length-take, length-drop, drop-of-length-le}
+use lib.Seq.{drop-drop}
+use borrow.Author.Needs.{needs}
+use Rattle.refusal.specs.Outcome.{Outcome}
+use Rattle.refusal.specs.Fills.{laid}
+use Rattle.refusal.proofs.FillsLaws.{laying-made}
 use Rattle.adding.proofs.composing.put.Statement.{statement}
 use Rattle.adding.proofs.composing.put.Tie as tie
 
-abbrev Inv-loop : tie.InvT-loop
-Inv-loop bytes to₀ at i₀ to i =
-    (i ≤ length bytes) × (at + length bytes ≤ length to₀) × (length to ≡ length to₀) × (take (at + i) to ≡ take at to₀ ++ take i bytes)
+-- where the bytes were laid
+module _ (c : tie.After-lay) where
+  abbrev start : tie.Start
+  start = c .before .before .before .before
 
-abbrev μ-loop : tie.MeasureT-loop
-μ-loop bytes to₀ at i₀ to i = length bytes - i
+  abbrev bytes : List ℕ
+  bytes = start .args .bytes .now
 
-loop-holds : tie.Need-loop-holds Inv-loop μ-loop
-loop-holds c = (omega arith, c .pre, refl, ap (λ (n : ℕ). take n (c .args .to .now)) (add-zero (c .args .at)) ∙ sym (append-nil _))
+  abbrev to : List ℕ
+  to = start .args .to .now
 
-shared-slice-read-to : tie.Need-shared-slice-read-to Inv-loop μ-loop
-shared-slice-read-to c = omega arith
+  abbrev at : ℕ
+  at = start .args .at
 
-add-to : tie.Need-add-to Inv-loop μ-loop
-add-to c = omega arith
+  -- as many places as there are bytes
+  abbrev size : ℕ
+  size = at + length bytes - at
 
-slice-write-to : tie.Need-slice-write-to Inv-loop μ-loop
-slice-write-to c = omega arith
+  abbrev part : List ℕ
+  part = take size (drop at to)
 
-add-i : tie.Need-add-i Inv-loop μ-loop
-add-i c = omega arith
+  part-long : length part ≡ length bytes
+  part-long = simp (length-take, length-drop) (omega arith)
 
-loop-less : tie.Need-loop-less Inv-loop μ-loop
-loop-less c = omega arith
+  part-is : c .lay .last .1 .0 ≡ bytes
+  part-is =
+      c .lay .ensures .lent
+      ∙ ap (λ (o : Outcome (List ℕ)). laid o part) (laying-made bytes (length part) (omega (arith, part-long)))
+      ∙ ap (λ (rest : List ℕ). bytes ++ rest) (drop-of-length-le part {i = length bytes} (omega (arith, part-long)))
+      ∙ append-nil bytes
 
-loop-again : tie.Need-loop-again Inv-loop μ-loop
-loop-again c =
-    let start = c .before .before .before in
-    let to = c .before .before .loop .to in
-    let i = c .before .before .loop .i in
-    let at = start .args .at in
-    let bytes = start .args .bytes .now in
-    let next : at + (i + 1) ≡ suc (at + i) = omega arith in (
-      omega arith,
-      omega arith,
-      simp length-set (omega arith),
-      ap (λ (n : ℕ). take n (set to (at + i) (getD bytes i 0))) next
-          ∙ take-suc-set to (at + i) (getD bytes i 0) (omega arith)
-          ∙ ap (λ (front : List ℕ). front ++ (getD bytes i 0 ∷ [])) (c .before .before .loop .inv .3)
-          ∙ append-assoc (take at (start .args .to .now)) (take i bytes) (getD bytes i 0 ∷ [])
-          ∙ ap (λ (back : List ℕ). take at (start .args .to .now) ++ back) (sym (ap (λ (n : ℕ). take n bytes) (add-one i) ∙ take-suc bytes i 0 (omega arith))),
-    )
-
-add-result : tie.Need-add-result Inv-loop μ-loop
-add-result c = omega arith
-
-same-length : tie.Need-same-length Inv-loop μ-loop
-same-length c = omega arith
-
-returns : tie.Need-returns Inv-loop μ-loop
+returns : tie.Need-returns
 returns c =
-    let bytes = c .before .before .args .bytes .now in
-    let whole : c .before .loop .i ≡ length bytes = omega arith in
-    (ap (λ (n : ℕ). c .before .before .args .at + n) whole, c .before .loop .inv .3 ∙ ap (λ (back : List ℕ). take (c .before .before .args .at) (c .before .before .args .to .now) ++ back) (ap (λ (n : ℕ). take n bytes) whole ∙ take-length bytes))
+    let l = c .before .before in
+    let end : at l + size l ≡ at l + length (bytes l) = omega arith in
+    (refl, rw (part-is l, drop-drop (size l) (at l) (to l), end) (sym (append-assoc (take (at l) (to l)) (bytes l) (drop (at l + length (bytes l)) (to l)))))
 
 pub put-spec : {M : Type 1} → statement M
 put-spec =
     tie.close
-    (tie.spec
-    Inv-loop
-    μ-loop
-    loop-holds
-    shared-slice-read-to
-    add-to
-    slice-write-to
-    add-i
-    loop-less
-    loop-again
-    add-result
-    same-length
-    returns)
+    (tie.spec (λ c. search needs) (λ c. search needs) (λ c. search needs) (λ c. search needs) (λ c κs. search needs) (λ c. search needs) returns)

@@ -9,29 +9,21 @@ use borrow.Author.Needs.{needs}
 use borrow.Author.Tests.{not-true, not-false}
 use lib.ListN.{length}
 use Rattle.refusal.specs.Outcome.{made}
-use Rattle.refusal.specs.Fills.{answered}
-use Rattle.refusal.proofs.FillsLaws.{refused-of-answered, made-of-answered, refused-of-answer, made-of-answer}
+use Rattle.refusal.specs.declared.Answer.the-variants.{Done}
+use Rattle.refusal.specs.Fills.{answerOf}
+use Rattle.refusal.proofs.FillsLaws.{refused-of-answer, made-of-answer}
 use Rattle.elements.specs.declared.Element.{Element}
 use Rattle.identifiers.specs.declared.Kind.{Kind}
 use Rattle.identifiers.specs.Identifiers.{kindOf, spelled}
 use Rattle.identifiers.specs.Data.{rightData}
-use Rattle.adding.specs.Adding.{sofar}
-use Rattle.adding.specs.Judging.{unusedIn}
+use Rattle.adding.specs.Adding.{sofar, unusedIn}
 use Rattle.identifiers.proofs.DataLaws.{sized-if-listed}
 use Rattle.identifiers.proofs.DecisionLaws.{spelling-of}
 use Rattle.identifiers.proofs.ListedLaws.{listed-if-kind}
-use Rattle.adding.proofs.AddLaws.{unused-short, kind-of-row, no-kind-of-row, judged-old, judged-unlisted, judged-wrong, judged-used, judged-over, judged-made}
+use Rattle.identifiers.proofs.RowLaws.{kind-of-row, no-kind-of-row}
+use Rattle.adding.proofs.AddLaws.{unused-short, judged-old, judged-unlisted, judged-wrong, judged-used, judged-over, judged-made}
 use Rattle.adding.proofs.judging.judge.Statement.{statement}
 use Rattle.adding.proofs.judging.judge.Tie as tie
-
-test-old-requires : tie.Need-test-old-requires
-test-old-requires c κs = search needs
-
-enum-told : tie.Need-enum-told
-enum-told c = search needs
-
-enum-told-2 : tie.Need-enum-told-2
-enum-told-2 c = search needs
 
 returns : tie.Need-returns
 returns c =
@@ -39,7 +31,7 @@ returns c =
     let args = tested .before .before .before .args in
     let is = c .enum-told2 .given .1 in
     let stopped = refused-of-answer (sofar (args .old .now)) _ (sym is ∙ tested .test-old .ensures) in
-    is ∙ sym (ap answered (judged-old (args .old .now) (args .identifier) (args .content .now) _ stopped))
+    is ∙ sym (ap answerOf (judged-old (args .old .now) (args .identifier) (args .content .now) _ stopped))
 
 -- the strings so far are known
 module _ (c : tie.After-enum-told) where
@@ -68,19 +60,10 @@ module _ (c : tie.After-enum-told) where
   unfolding strings
   right = tested-old .1
 
-row-of-requires : tie.Need-row-of-requires
-row-of-requires c κs = search needs
-
-enum-known-kind : tie.Need-enum-known-kind
-enum-known-kind c = search needs
-
-enum-told-3 : tie.Need-enum-told-3
-enum-told-3 c = search needs
-
 returns-2 : tie.Need-returns-2
 returns-2 c =
     let a = c .before .before .before in
-    sym (ap answered (judged-unlisted (old a) (x a) (content a) (strings a) (right a) (no-kind-of-row (x a) (sym (c .before .before .row-of .ensures) ∙ c .enum-told3 .given .1))))
+    sym (ap answerOf (judged-unlisted (old a) (x a) (content a) (strings a) (right a) (no-kind-of-row (x a) (sym (c .before .before .row-of .ensures) ∙ c .enum-told3 .given .1))))
 
 -- the kind is known
 module _ (c : tie.After-kind) where
@@ -91,7 +74,7 @@ module _ (c : tie.After-kind) where
   kind = c .kind .given .0 .1 .0
 
   listed : kindOf (x so-far) ≡ some kind
-  listed = kind-of-row (x so-far) (c .kind .given .0 .0) kind (sym (c .before .before .row-of .ensures) ∙ c .kind .given .1)
+  listed = kind-of-row (x so-far) (c .kind .given .0 .0) kind (sym (c .before .before .row-of .ensures) ∙ c .kind .given .1) .1
 
 right-data-requires : tie.Need-right-data-requires
 right-data-requires c κs = sized-if-listed (x (so-far (c .before))) (kind (c .before)) (listed (c .before))
@@ -100,20 +83,11 @@ returns-3 : tie.Need-returns-3
 returns-3 c =
     let k = c .before .before .before in
     let a = so-far k in
-    sym (ap answered (judged-wrong (old a) (x a) (content a) (strings a) (right a) (kind k) (listed k) (sym (c .before .right-data .ensures) ∙ not-true _ (c .if1 .taken))))
+    sym (ap answerOf (judged-wrong (old a) (x a) (content a) (strings a) (right a) (kind k) (listed k) (sym (c .before .right-data .ensures) ∙ not-true _ (c .if1 .taken))))
 
 -- the data is right
 good : (c : tie.Else1) → rightData (kind (c .before .before .before)) (content (so-far (c .before .before .before))) ≡ true
 good c = sym (c .before .right-data .ensures) ∙ not-false _ (c .if1 .left)
-
-closing-of-requires : tie.Need-closing-of-requires
-closing-of-requires c κs = search needs
-
-enum-known-unused : tie.Need-enum-known-unused
-enum-known-unused c = search needs
-
-enum-told-4 : tie.Need-enum-told-4
-enum-told-4 c = search needs
 
 returns-4 : tie.Need-returns-4
 returns-4 c =
@@ -121,7 +95,7 @@ returns-4 c =
     let k = e .before .before .before in
     let a = so-far k in
     let is = c .enum-told4 .given .1 in
-    is ∙ sym (ap answered (judged-used (old a) (x a) (content a) (strings a) (right a) (kind k) (listed k) (good e) _ (refused-of-answered _ _ (sym is ∙ c .before .before .closing-of .ensures (strings a) (right a)))))
+    is ∙ sym (ap answerOf (judged-used (old a) (x a) (content a) (strings a) (right a) (kind k) (listed k) (good e) _ (refused-of-answer _ _ (sym is ∙ c .before .before .closing-of .ensures (strings a) (right a)))))
 
 -- what stands before the new string is known
 module _ (c : tie.After-unused) where
@@ -137,11 +111,11 @@ module _ (c : tie.After-unused) where
   abbrev count : ℕ
   count = c .unused .given .0 .0
 
-  unused : unusedIn (strings start) (x start) (length (old start)) ≡ made count
-  unused = made-of-answered _ count (sym (c .unused .given .1) ∙ c .before .before .closing-of .ensures (strings start) (right start))
+  closes : (between : List ℕ) × (unusedIn (strings start) (x start) (length (old start)) ≡ made between) × (length between ≡ count)
+  closes = made-of-answer _ count (sym (c .unused .given .1) ∙ c .before .before .closing-of .ensures (strings start) (right start))
 
   short : count ≤ 1
-  short = unused-short (strings start) (x start) (length (old start)) count unused
+  short = omega (arith, unused-short (strings start) (x start) (length (old start)) (closes .0) (closes .1), closes .2)
 
   digits : length (spelled (x start)) ≤ 4
   digits = spelling-of (x start) (listed-if-kind (x start) (kind known) (listed known)) .four
@@ -151,9 +125,6 @@ module _ (c : tie.After-unused) where
 
 add-end : tie.Need-add-end
 add-end c = omega (arith, short (c .before), few (c .before))
-
-digits-of-requires : tie.Need-digits-of-requires
-digits-of-requires c κs = search needs
 
 add-end-2 : tie.Need-add-end-2
 add-end-2 c = omega (arith, short (c .before .before), few (c .before .before), digits (c .before .before), c .digits-of .ensures)
@@ -166,35 +137,36 @@ returns-5 c =
     let u = c .before .before .before in
     let k = known u in
     let a = start u in
-    sym (ap answered (judged-over (old a) (x a) (content a) (strings a) (right a) (kind k) (listed k) (good (went-on u)) (count u) (unused u) (omega (arith, c .if2 .taken, c .before .digits-of .ensures))))
+    sym (ap answerOf (judged-over (old a) (x a) (content a) (strings a) (right a) (kind k) (listed k) (good (went-on u)) (closes u .0) (closes u .1) (omega (arith, c .if2 .taken, c .before .digits-of .ensures, closes u .2))))
 
 returns-6 : tie.Need-returns-6
 returns-6 c =
     let u = c .before .before .before in
     let k = known u in
     let a = start u in
-    sym (ap answered (judged-made (old a) (x a) (content a) (strings a) (right a) (kind k) (listed k) (good (went-on u)) (count u) (unused u) (omega (arith, c .if2 .left, c .before .digits-of .ensures))))
+    let fits = judged-made (old a) (x a) (content a) (strings a) (right a) (kind k) (listed k) (good (went-on u)) (closes u .0) (closes u .1) (omega (arith, c .if2 .left, c .before .digits-of .ensures, closes u .2)) in
+    ap Done (sym (closes u .2)) ∙ sym (ap answerOf fits)
 
 pub judge-spec : {M : Type 1} → statement M
 judge-spec =
     tie.close
     (tie.spec
-    test-old-requires
-    enum-told
-    enum-told-2
+    (λ c κs. search needs)
+    (λ c. search needs)
+    (λ c. search needs)
     returns
-    row-of-requires
-    enum-known-kind
-    enum-told-3
+    (λ c κs. search needs)
+    (λ c. search needs)
+    (λ c. search needs)
     returns-2
     right-data-requires
     returns-3
-    closing-of-requires
-    enum-known-unused
-    enum-told-4
+    (λ c κs. search needs)
+    (λ c. search needs)
+    (λ c. search needs)
     returns-4
     add-end
-    digits-of-requires
+    (λ c κs. search needs)
     add-end-2
     add-if2
     returns-5

@@ -10,11 +10,8 @@ use Rattle.adding.proofs.judging.test_old.Tie as tie
 returns : tie.Need-returns
 returns c = rw (sofar-none (c .before .before .args .old .now) (c .if1 .taken))
 
-test-requires : tie.Need-test-requires
-test-requires c κs = search needs
-
 returns-2 : tie.Need-returns-2
 returns-2 c = c .test .ensures ∙ sym (ap answerOf (sofar-tested (c .before .before .before .args .old .now) (omega arith)))
 
 pub test-old-spec : {M : Type 1} → statement M
-test-old-spec = tie.close (tie.spec returns test-requires returns-2)
+test-old-spec = tie.close (tie.spec returns (λ c κs. search needs) returns-2)

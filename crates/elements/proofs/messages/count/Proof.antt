@@ -34,15 +34,6 @@ loop-holds : tie.Need-loop-holds Inv-loop μ-loop
 unfolding parsed
 loop-holds c = (omega arith, omega arith, refl, rw sub-zero (counted-none (parsed (c .before .args .message .now))))
 
-string-at-requires : tie.Need-string-at-requires Inv-loop μ-loop
-string-at-requires c κs = c .loop .inv .0
-
-enum-known-found : tie.Need-enum-known-found Inv-loop μ-loop
-enum-known-found c = search needs
-
-enum-known-found-2 : tie.Need-enum-known-found-2 Inv-loop μ-loop
-enum-known-found-2 c = search needs
-
 -- the rule has a turn left for each string
 fuel : (size count : ℕ) → count ≤ size → suc size - count ≡ suc (size - count)
 fuel size count h = omega arith
@@ -98,9 +89,6 @@ array-share-prefix-used c = omega arith
 
 slice-aggregate-is-among : tie.Need-slice-aggregate-is-among Inv-loop μ-loop
 slice-aggregate-is-among c = simp length-take (omega arith)
-
-is-among-requires : tie.Need-is-among-requires Inv-loop μ-loop
-is-among-requires c κs = search needs
 
 -- whether its identifier was used is known
 module _ (c : tie.After-is-among Inv-loop μ-loop) where
@@ -172,13 +160,13 @@ count-spec =
     Inv-loop
     μ-loop
     loop-holds
-    string-at-requires
-    enum-known-found
-    enum-known-found-2
+    (λ c κs. search needs)
+    (λ c. search needs)
+    (λ c. search needs)
     returns
     array-share-prefix-used
     slice-aggregate-is-among
-    is-among-requires
+    (λ c κs. search needs)
     returns-2
     add-t15
     returns-3

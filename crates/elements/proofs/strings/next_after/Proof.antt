@@ -8,12 +8,9 @@ returns : tie.Need-returns
 unfolding nextAfter
 returns c = rw (c .if1 .taken)
 
-add-result : tie.Need-add-result
-add-result c = search needs
-
 returns-2 : tie.Need-returns-2
 unfolding nextAfter
 returns-2 c = rw (c .if1 .left)
 
 pub next-after-spec : {M : Type 1} → statement M
-next-after-spec = tie.close (tie.spec add-result returns returns-2)
+next-after-spec = tie.close (tie.spec (λ c. search needs) returns returns-2)

@@ -13,9 +13,6 @@ use Rattle.identifiers.specs.Data.{allPass, pairAt, isDate}
 use Rattle.identifiers.proofs.contents.is_date.Statement.{statement}
 use Rattle.identifiers.proofs.contents.is_date.Tie as tie
 
-is-digits-requires : tie.Need-is-digits-requires
-is-digits-requires c κs = search needs
-
 returns : tie.Need-returns
 unfolding isDate
 returns c =
@@ -76,7 +73,7 @@ pub is-date-spec : {M : Type 1} → statement M
 is-date-spec =
     tie.close
     (tie.spec
-    is-digits-requires
+    (λ c κs. search needs)
     returns
     pair-at-requires
     returns-2

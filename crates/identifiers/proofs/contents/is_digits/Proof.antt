@@ -7,11 +7,8 @@ use lib.Dec.{eqb}
 use Rattle.identifiers.proofs.contents.is_digits.Statement.{statement}
 use Rattle.identifiers.proofs.contents.is_digits.Tie as tie
 
-first-other-requires : tie.Need-first-other-requires
-first-other-requires c κs = search needs
-
 returns : tie.Need-returns
 returns c = ap (λ (n : ℕ). eqb n (length (c .before .before .args .bytes .now))) (c .first-other .ensures)
 
 pub is-digits-spec : {M : Type 1} → statement M
-is-digits-spec = tie.close (tie.spec first-other-requires returns)
+is-digits-spec = tie.close (tie.spec (λ c κs. search needs) returns)

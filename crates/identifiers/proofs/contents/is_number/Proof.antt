@@ -9,19 +9,10 @@ use Rattle.identifiers.proofs.DataLaws.{number-right, number-wrong}
 use Rattle.identifiers.proofs.contents.is_number.Statement.{statement}
 use Rattle.identifiers.proofs.contents.is_number.Tie as tie
 
-right-number-requires : tie.Need-right-number-requires
-right-number-requires c κs = search needs
-
 -- the number was tested
 module _ (c : tie.After-right-number) where
   abbrev bytes : List ℕ
   bytes = c .before .before .args .bytes .now
-
-enum-told : tie.Need-enum-told
-enum-told c = search needs
-
-enum-told-2 : tie.Need-enum-told-2
-enum-told-2 c = search needs
 
 returns : tie.Need-returns
 returns c =
@@ -36,4 +27,4 @@ returns-2 c =
     sym (number-wrong (bytes at) f (right-refused (length (bytes at)) (bytes at) f (sym (c .enum-told2 .given .1) ∙ at .right-number .ensures)))
 
 pub is-number-spec : {M : Type 1} → statement M
-is-number-spec = tie.close (tie.spec right-number-requires enum-told enum-told-2 returns returns-2)
+is-number-spec = tie.close (tie.spec (λ c κs. search needs) (λ c. search needs) (λ c. search needs) returns returns-2)

@@ -7,11 +7,8 @@ use lib.Dec.{eqb}
 use Rattle.identifiers.proofs.contents.is_text.Statement.{statement}
 use Rattle.identifiers.proofs.contents.is_text.Tie as tie
 
-first-outside-requires : tie.Need-first-outside-requires
-first-outside-requires c κs = search needs
-
 returns : tie.Need-returns
-returns c = ap (λ (n : ℕ). eqb n (length (c .before .before .args .bytes .now))) (c .first-outside .ensures)
+returns c = ap (λ (n : ℕ). eqb n (length (c .before .before .args .bytes .now))) (c .first-not .ensures)
 
 pub is-text-spec : {M : Type 1} → statement M
-is-text-spec = tie.close (tie.spec first-outside-requires returns)
+is-text-spec = tie.close (tie.spec (λ c κs. search needs) returns)

@@ -34,35 +34,17 @@ module _ (c : tie.Else2) where
   abbrev bytes : List ℕ
   bytes = start .args .bytes .now
 
-enum-told : tie.Need-enum-told
-enum-told c = search needs
-
 is-number-requires : tie.Need-is-number-requires
 is-number-requires c κs =
     let at = c .before .before in
     let sizes = sized-number (kind at) (start at .pre) (c .enum-told .given .1) in
     (omega arith, omega arith)
 
-enum-told-2 : tie.Need-enum-told-2
-enum-told-2 c = search needs
-
 is-date-requires : tie.Need-is-date-requires
 is-date-requires c κs =
     let at = c .before .before in
     let sizes = sized-date (kind at) (start at .pre) (c .enum-told2 .given .1) in
     omega arith
-
-enum-told-3 : tie.Need-enum-told-3
-enum-told-3 c = search needs
-
-is-digits-requires : tie.Need-is-digits-requires
-is-digits-requires c κs = search needs
-
-enum-told-4 : tie.Need-enum-told-4
-enum-told-4 c = search needs
-
-is-text-requires : tie.Need-is-text-requires
-is-text-requires c κs = search needs
 
 returns-3 : tie.Need-returns-3
 unfolding passes
@@ -94,14 +76,14 @@ right-data-spec =
     (tie.spec
     returns
     returns-2
-    enum-told
+    (λ c. search needs)
     is-number-requires
-    enum-told-2
+    (λ c. search needs)
     is-date-requires
-    enum-told-3
-    is-digits-requires
-    enum-told-4
-    is-text-requires
+    (λ c. search needs)
+    (λ c κs. search needs)
+    (λ c. search needs)
+    (λ c κs. search needs)
     returns-3
     returns-4
     returns-5

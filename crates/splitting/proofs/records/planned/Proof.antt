@@ -18,15 +18,6 @@ use Rattle.splitting.proofs.SplitLaws.{splits-refused, splits-short, sp
 use Rattle.splitting.proofs.records.planned.Statement.{statement}
 use Rattle.splitting.proofs.records.planned.Tie as tie
 
-test-requires : tie.Need-test-requires
-test-requires c κs = search needs
-
-enum-known-tested : tie.Need-enum-known-tested
-enum-known-tested c = search needs
-
-enum-told : tie.Need-enum-told
-enum-told c = search needs
-
 returns : tie.Need-returns
 returns c =
     let args = c .before .before .before .before .args in
@@ -55,4 +46,4 @@ returns-3 c =
 
 pub planned-spec : {M : Type 1} → statement M
 planned-spec =
-    tie.close (tie.spec test-requires enum-known-tested enum-told returns returns-2 returns-3)
+    tie.close (tie.spec (λ c κs. search needs) (λ c. search needs) (λ c. search needs) returns returns-2 returns-3)
