@@ -1,42 +1,30 @@
 -- One line more of a block: the bytes up to its byte 10 hold none, and its answer is written after the others.
-use Prim.Native.Nat.{ℕ, zero, suc, _+_, _-_, _≤_, _<_, min}
+use Prim.Native.Nat.{ℕ, _+_, _-_, _≤_, _<_, min}
 use mathlib.Core.Path.{_≡_, refl, sym, ap, _∙_}
 use mathlib.Core.Logic.{_⊎_, inl, inr}
-use mathlib.Core.Bool.{Bool, true, false, cond}
 use mathlib.Core.List.{List, [], _∷_, _++_, append-assoc, append-nil}
-use native.Mathlib.Decide.{decLe}
 use native.Mathlib.Numerals.{add-one}
 use native.Mathlib.Omega.{arith}
 use lib.ListN.{length, getD, take, drop, length-append, length-take, length-drop}
-use lib.Seq.{length-take-le, take-all, take-at, drop-at, take-suc, take-add, take-take, getD-drop}
+use lib.Seq.{length-take-le, take-suc, take-add, getD-drop}
 use borrow.Rule.Slice.PartMut.{midOf, putMid}
 use borrow.Author.Tests.{not-false, eqb-true}
 use Rattle.laws.specs.First.{firstNot}
-use Rattle.laws.proofs.FirstLaws.{first-fails}
+use Rattle.laws.proofs.FirstLaws.{first-fails, first-of-take, first-within}
 use Rattle.lines.specs.Cut.{otherThan}
 use Rattle.text.specs.Puts.{Puts}
 use Rattle.text.proofs.PutsLaws.{puts-none, puts-then, puts-within}
 use Rattle.bench.specs.Line.{answers, longestAnswer}
 use Rattle.bench.specs.Block.{IsLine, AreLines, ended, answersTo, Answered, Cut}
 
--- all before the first that fails pass
-first-take : {A : Type 0} (passes : A → Bool) (xs : List A) → firstNot passes (take (firstNot passes xs) xs) ≡ length (take (firstNot passes xs) xs)
-unfolding firstNot
-first-take passes [] = refl
-first-take passes (x ∷ xs) = go (passes x) refl (first-take passes xs)
-  where
-    go : (b : Bool) → passes x ≡ b → firstNot passes (take (firstNot passes xs) xs) ≡ length (take (firstNot passes xs) xs) → firstNot passes (take (cond b (suc (firstNot passes xs)) zero) (x ∷ xs)) ≡ length (take (cond b (suc (firstNot passes xs)) zero) (x ∷ xs))
-    go true p rest = rw p (ap suc rest)
-    go false p rest = refl
-
-lines-more : (lines : List (List ℕ)) (line : List ℕ) → AreLines lines → IsLine line → AreLines (lines ++ (line ∷ []))
-lines-more [] line all last = (last, tt)
-lines-more (first ∷ lines) line all last = (all .0, lines-more lines line (all .1) last)
-
-ended-more : (lines : List (List ℕ)) (line : List ℕ) → ended (lines ++ (line ∷ [])) ≡ ended lines ++ (line ++ (10 ∷ []))
+ended-append : (lines more : List (List ℕ)) → ended (lines ++ more) ≡ ended lines ++ ended more
 unfolding ended
-ended-more [] line = refl
-ended-more (first ∷ lines) line = rw (ended-more lines line) (sym (append-assoc first (10 ∷ ended lines) (line ++ (10 ∷ []))))
+ended-append [] more = refl
+ended-append (line ∷ lines) more = rw (ended-append lines more) (sym (append-assoc line (10 ∷ ended lines) (ended more)))
+
+are-append : (lines more : List (List ℕ)) → AreLines lines → AreLines more → AreLines (lines ++ more)
+are-append [] more first second = second
+are-append (line ∷ lines) more first second = (first .0, are-append lines more (first .1) second)
 
 answers-more : (lines : List (List ℕ)) (line : List ℕ) → answersTo (lines ++ (line ∷ [])) ≡ answersTo lines ++ answers line
 unfolding answersTo
@@ -58,7 +46,7 @@ module _ (block : List ℕ) (from : ℕ) (before : List ℕ) (next put : ℕ) (a
 
   is-line : IsLine line
   unfolding line
-  is-line = rw size (first-take (otherThan 10) (drop next block))
+  is-line = rw (first-of-take, length-take) (omega (arith, size, first-within (otherThan 10) (drop next block)))
 
   the-end : getD block end 0 ≡ 10
   the-end =
@@ -67,18 +55,18 @@ module _ (block : List ℕ) (from : ℕ) (before : List ℕ) (next put : ℕ) (a
       eqb-true _ 10 (not-false _ (rw (getD-drop, ← ends) at fails))
 
   cut-on : (lines : List (List ℕ)) → take next block ≡ take from block ++ ended lines → take (end + 1) block ≡ take from block ++ ended (lines ++ (line ∷ []))
-  unfolding line
+  unfolding line ended
   cut-on lines e =
       let on : end ≡ next + (end - next) = omega arith in
       let upto : take end block ≡ (take from block ++ ended lines) ++ line = ap (λ (n : ℕ). take n block) on ∙ take-add next (end - next) block ∙ ap (λ (front : List ℕ). front ++ line) e in
-      rw (add-one, take-suc block end 0 within, the-end, upto, ended-more lines line) (simp append-assoc refl)
+      rw (add-one, take-suc block end 0 within, the-end, upto, ended-append lines (line ∷ [])) (simp append-assoc refl)
 
   pub answered-more : (s : ℕ) (rest : List ℕ) → Answered block from before next put after → Puts (answers (take (end - next) (drop next block))) (midOf put (length after - put) after) s rest → Answered block from before (end + 1) (put + s) (putMid put (length after - put) after rest)
   unfolding line
   answered-more s rest a p =
       record {
         lines = a .lines ++ (line ∷ []);
-        are = lines-more (a .lines) line (a .are) is-line;
+        are = are-append (a .lines) (line ∷ []) (a .are) (is-line, tt);
         all = cut-on (a .lines) (a .all);
         puts = rw (answers-more (a .lines) line) (puts-then (answersTo (a .lines)) (answers line) before put after s rest (a .puts) p);
       }
@@ -101,15 +89,6 @@ pub none-ends : {ended : Type 0} (room put : ℕ) → longestAnswer ≤ room →
 none-ends room put h (inl e) none = e
 none-ends room put h (inr full) none = absurd (omega arith)
 
-ended-append : (lines more : List (List ℕ)) → ended (lines ++ more) ≡ ended lines ++ ended more
-unfolding ended
-ended-append [] more = refl
-ended-append (line ∷ lines) more = rw (ended-append lines more) (sym (append-assoc line (10 ∷ ended lines) (ended more)))
-
-are-append : (lines more : List (List ℕ)) → AreLines lines → AreLines more → AreLines (lines ++ more)
-are-append [] more first second = second
-are-append (line ∷ lines) more first second = (first .0, are-append lines more (first .1) second)
-
 pub cut-none : (block : List ℕ) → Cut block 0
 unfolding ended
 cut-none block = record { lines = []; are = tt; all = refl }
@@ -121,23 +100,3 @@ cut-more block from before next put after p a =
       are = are-append (p .lines) (a .lines) (p .are) (a .are);
       all = a .all ∙ ap (λ (front : List ℕ). front ++ ended (a .lines)) (p .all) ∙ sym (ended-append (p .lines) (a .lines));
     }
-
--- the beginning of what is left of a block, moved to the front
-pub held-front : (input after : List ℕ) (filled start held : ℕ) → start ≤ filled → filled ≤ length input → held ≡ min (filled - start) 49 → after ≡ take held (drop start input) ++ drop held input → take held after ≡ take 49 (drop start (take filled input))
-held-front input after filled start held hs hf e is =
-    let on : start + (filled - start) ≡ filled = omega arith in
-    let left : drop start (take filled input) ≡ take (filled - start) (drop start input) =
-    ap (λ (n : ℕ). drop start (take n input)) (sym on)
-    ∙ ap (drop start) (take-add start (filled - start) input)
-    ∙ drop-at (take start input) (take (filled - start) (drop start input)) start (length-take-le start input (omega arith)) in
-    let long : held ≤ length (drop start input) = rw length-drop (omega arith) in
-    ap (take held) is
-    ∙ take-at (take held (drop start input)) (drop held input) held (length-take-le held (drop start input) long)
-    ∙ shorter (decLe 49 (filled - start))
-    ∙ ap (take 49) (sym left)
-  where
-    shorter : Dec (49 ≤ filled - start) → take held (drop start input) ≡ take 49 (take (filled - start) (drop start input))
-    shorter (yes many) = let full : held ≡ 49 = omega arith in rw full (sym (take-take 49 (filled - start) (drop start input) many))
-    shorter (no few) =
-        let whole : held ≡ filled - start = omega arith in
-        rw whole (sym (take-all 49 (take (filled - start) (drop start input)) (omega (arith, length-take (filled - start) (drop start input)))))

@@ -14,9 +14,9 @@ use Rattle.elements.specs.Strings.{tested}
 use Rattle.elements.proofs.TestRefusals.{tested-has-room}
 use Rattle.text.specs.Decimal.{apart}
 use Rattle.text.specs.Typed.{messageOf}
-use Rattle.gs1_128.specs.Calls.{writes}
+use Rattle.gs1_128.specs.Rules.{writes}
 use Rattle.bench.specs.Line.{answerLine, answers}
-use Rattle.bench.proofs.WrittenLaws.{written-over, refused-by-test}
+use Rattle.bench.proofs.WrittenLaws.{written-over, write-refused-by-test}
 
 -- `1 0`
 pub long-line : (line : List ℕ) → 48 < length line → answers line ≡ apart 1 0 ++ (10 ∷ [])
@@ -35,7 +35,7 @@ held-as-whole begun rest = go (decLe (length begun) 49)
 
 -- a refusal that is printed is the message's own
 pub refusal-printed : (line : List ℕ) (f : Refusal) → writes (messageOf line) 619 ≡ refused f → tested (messageOf line) ≡ refused f
-refusal-printed line f e = refused-by-test (messageOf line) 619 f (omega arith) e
+refusal-printed line f e = write-refused-by-test (messageOf line) 619 f (omega arith) e
 
 -- 12 is never printed
 pub room-never-printed : (line : List ℕ) → writes (messageOf line) 619 ≡ refused Room → ⊥

@@ -17,10 +17,10 @@ use Rattle.elements.specs.declared.Element.{Element}
 use Rattle.elements.specs.Strings.{tested}
 use Rattle.elements.proofs.Theorems.{strings-of-accepted}
 use Rattle.spelling.specs.Best.{bestSpelling}
-use Rattle.gs1_128.specs.Calls.{writes}
+use Rattle.gs1_128.specs.Rules.{bestSymbol, writes}
+use Rattle.gs1_128.proofs.DrawnLaws.{symbol-below}
 use Rattle.gs1_128.proofs.WrittenLaws.{write-refused}
-use Rattle.gs1_128.proofs.ComesBack.{bestSymbol, best-room, writes-best, written}
-use Rattle.bench.proofs.DrawnLaws.{symbol-small}
+use Rattle.gs1_128.proofs.ComesBack.{best-room, writes-best, written}
 
 -- a message that passes its test is drawn in any list of 313 places or more
 written-made : (message : List ℕ) (strings : List Element) (room : ℕ) → tested message ≡ made strings → 313 ≤ room → writes message room ≡ made (bestSymbol message)
@@ -36,8 +36,8 @@ in-any-room message room other h k = go (tested message) refl
     go (refused f) e = write-refused message room f e ∙ sym (write-refused message other f e)
 
 -- every refusal is the message's own, and never for want of room
-pub refused-by-test : (message : List ℕ) (room : ℕ) (f : Refusal) → 313 ≤ room → writes message room ≡ refused f → tested message ≡ refused f
-refused-by-test message room f h e = go (tested message) refl
+pub write-refused-by-test : (message : List ℕ) (room : ℕ) (f : Refusal) → 313 ≤ room → writes message room ≡ refused f → tested message ≡ refused f
+write-refused-by-test message room f h e = go (tested message) refl
   where
     go : (o : Outcome (List Element)) → tested message ≡ o → o ≡ refused f
     go (made strings) t = absurd (made-not-refused _ f (sym (written-made message strings room t h) ∙ e))
@@ -48,7 +48,7 @@ pub widths-of-written : (message : List ℕ) (room : ℕ) (widths : List ℕ) �
 widths-of-written message room widths e =
     let w = written message widths room e in
     rw (w .1)
-    (best-room message _ (w .0 .right), λ i h. omega (arith, symbol-small (bestSpelling message) i h))
+    (best-room message _ (w .0 .right), symbol-below (bestSpelling message))
 
 -- more than 48 bytes are refused for their count
 pub written-over : (message : List ℕ) (room : ℕ) → 48 < length message → writes message room ≡ refused Count

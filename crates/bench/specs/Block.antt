@@ -1,10 +1,11 @@
 -- Document 01, "Examples on each side": "A line ends at byte 10". So bytes that have been read are lines, each with the byte 10 that ends it,
 -- and after them the beginning of a line that may go on. Each line gets its answer, in their order.
-use Prim.Native.Nat.{ℕ, _≤_}
+use Prim.Native.Nat.{ℕ}
 use mathlib.Core.Path.{_≡_}
 use mathlib.Core.List.{List, [], _∷_, _++_}
 use lib.ListN.{length, take, drop}
 use Rattle.laws.specs.First.{firstNot}
+use Rattle.blocks.specs.Blocks.{Holds}
 use Rattle.lines.specs.Cut.{otherThan}
 use Rattle.text.specs.Puts.{Puts}
 use Rattle.bench.specs.Line.{answers}
@@ -44,5 +45,4 @@ pub record Held (block : List ℕ) (held : ℕ) (after : List ℕ) : Type 0 wher
   pub next : ℕ
   pub cut : Cut block next
   pub rest : IsLine (drop next block)
-  pub few : held ≤ 49
-  pub kept : take held after ≡ take 49 (drop next block)
+  pub holds : Holds block next 49 held after

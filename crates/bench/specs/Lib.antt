@@ -1,6 +1,5 @@
 -- The bench program's lines.
 --
---   counted              Line    0, the count of widths, and the widths
 --   answerLine           Line    the line that answers what writing a symbol comes to
 --   answers              Line    the line that answers a line
 --   longestAnswer        Line    how many bytes an answer has at the most

@@ -8,14 +8,11 @@ use Rattle.refusal.specs.Numbers.{numberOf, placeOf}
 use Rattle.text.specs.Decimal.{apart}
 use Rattle.text.specs.Typed.{messageOf}
 use Rattle.text.specs.Widths.{runTogether}
-use Rattle.gs1_128.specs.Calls.{writes}
-
-abbrev pub counted : List ℕ → List ℕ
-counted widths = apart 0 (length widths) ++ (32 ∷ []) ++ runTogether widths
+use Rattle.gs1_128.specs.Rules.{writes}
 
 -- every answer ends in byte 10
 abbrev pub answerLine : Outcome (List ℕ) → List ℕ
-answerLine (made widths) = counted widths ++ (10 ∷ [])
+answerLine (made widths) = apart 0 (length widths) ++ (32 ∷ []) ++ runTogether widths ++ (10 ∷ [])
 answerLine (refused f) = apart (numberOf f) (placeOf f) ++ (10 ∷ [])
 
 -- a line's bytes, without its byte 10, and the bytes of its answer; no symbol has more than 619 widths, so 12 is never printed

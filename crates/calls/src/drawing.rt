@@ -1,11 +1,11 @@
 // `ean13 NUMBER`, `gs1 MESSAGE` and the other words that draw a symbol.
 ghost use Prim.Native.Nat.{_≤_, _<_};
 ghost use lib.ListN.{length};
-ghost use Rattle.dialogue.specs.Places.{placesOf, Filled};
+ghost use Rattle.dialogue.specs.declared.answers.Form.the-variants.{Widths};
+ghost use Rattle.dialogue.specs.Places.{placesOf, Filled, ShowsMade};
 use dialogue::answers;
 use dialogue::answers::Form;
 use dialogue::room::Room;
-use dialogue::typed;
 use ean8::Ean8;
 use ean13::Ean13;
 use gs1_128::Gs1128;
@@ -21,7 +21,7 @@ pub fn draw(kind: Kind, typed: &[u8], room: Room, out: &mut [u8]) -> usize
 {
     let mut content = [0u8; 64];
     let mut drawn = [0u8; 700];
-    let end = typed::message_in(typed, &mut content);
+    let end = text::message_in(typed, &mut content);
     let places = room.places(700);
     draw_in(kind, &content[0..end], &mut drawn[0..places], out)
 }
@@ -36,7 +36,8 @@ fn draw_in(kind: Kind, content: &[u8], widths: &mut [u8], out: &mut [u8]) -> usi
 }
 
 fn write(kind: Kind, content: &[u8], widths: &mut [u8]) -> Answer
-    ensures { λ r. ⌜ Filled r (length (now (widths .entry))) ⌝ }
+    ensures { λ r. ⌜ Filled r (length (now (widths .exit))) ⌝ }
+    ensures { λ r. ⌜ ShowsMade Widths r (now (widths .exit)) ⌝ }
 {
     match kind {
         Kind::Ean13 => Ean13::write(content, widths),

@@ -1,5 +1,4 @@
 // The desk's lines: a call and its arguments in, one line of answer out. Nothing here reads or writes anything but the bytes it is lent.
-mod digit;
 mod drawing;
 mod reading;
 mod words;
@@ -68,7 +67,7 @@ fn call(line: &[u8], room: Room, out: &mut [u8]) -> usize
     let from = end + 1;
     let arguments = &line[from..];
     match words::named(&line[0..end]) {
-        Word::Digit => digit::digit(arguments, out),
+        Word::Digit => answers::put_answer(digits::check_digit(arguments), out),
         Word::Message(word) => message_lines::answer(word, arguments, room, out),
         Word::Draw(kind) => drawing::draw(kind, arguments, room, out),
         Word::Read(which) => reading::read(which, arguments, room, out),

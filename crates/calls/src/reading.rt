@@ -7,6 +7,7 @@ use dialogue::answers::Form;
 use dialogue::room::Room;
 use dialogue::typed;
 use dialogue::typed::Widths;
+use refusal::Answer;
 use symbols::Kind;
 use symbols::Reading;
 
@@ -72,7 +73,7 @@ fn read_any(widths: &[u8], content: &mut [u8], out: &mut [u8]) -> usize
 {
     match symbols::read(widths, content) {
         Reading::Read(kind, count) => put_named(kind, &content[0..count], out),
-        Reading::Refused(refusal) => answers::put_refusal(refusal, out),
+        Reading::Refused(refusal) => answers::put_answer(Answer::Refused(refusal), out),
     }
 }
 
@@ -82,9 +83,9 @@ fn put_named(kind: Kind, list: &[u8], out: &mut [u8]) -> usize
     requires { ⌜ 1024 ≤ length (now out) ⌝ }
     ensures { λ r. ⌜ (0 < r) × (r ≤ 1024) ⌝ }
 {
-    let at = answers::put_pair(0, list.len(), out);
+    let at = text::put_pair(0, list.len(), out);
     let at = put_kind(kind, out, at);
-    let at = answers::put_list(Form::Bytes, list, out, at);
+    let at = at + text::put_message(list, &mut out[at..]);
     answers::put_byte(b'\n', out, at)
 }
 

@@ -1,10 +1,8 @@
 // The desk: each line of standard input is a call, and each gets one line of answer on standard output.
 //
-// Only this file reads and writes. It takes the input in blocks, cuts them into lines, and has `calls` answer each line.
-ghost use Prim.Native.Nat.{_+_, _≤_};
+// It takes the input in blocks, cuts them into lines, has `calls` answer each line, and writes the answers out.
+ghost use Prim.Native.Nat.{_+_, _≤_, _<_};
 ghost use lib.ListN.{length};
-use libc::STDIN_FILENO;
-use libc::STDOUT_FILENO;
 
 const LONGEST_LINE: usize = 4096;
 
@@ -20,54 +18,20 @@ fn main() {
 }
 
 fn serve(input: &mut [u8], output: &mut [u8])
-    requires { ⌜ 4097 ≤ length (now input) ⌝ }
+    requires { ⌜ 4097 < length (now input) ⌝ }
     requires { ⌜ 1024 ≤ length (now output) ⌝ }
 {
-    let held = take_blocks(input, output);
-    finish(&input[0..held], output);
-}
-
-// Takes blocks to the end of the input, and gives the count of bytes held of a line that hasn't ended. A proved loop has to end, and
-// nothing says that the input does, so the loop counts its turns down, from a number that no run uses up.
-fn take_blocks(input: &mut [u8], output: &mut [u8]) -> usize
-    requires { ⌜ 4097 ≤ length (now input) ⌝ }
-    requires { ⌜ 1024 ≤ length (now output) ⌝ }
-    ensures { λ r. ⌜ r ≤ 4097 ⌝ }
-{
-    let mut held = 0;
-    let mut turns = u64::MAX;
-    while 0 < turns {
-        let more = read_more(input, held);
-        if more == 0 {
-            return held;
-        }
-        held = take_block(input, held, held + more, output);
-        turns -= 1;
+    let mut block = blocks::first(input);
+    while 0 < block.left {
+        let held = block.held;
+        let end = held + block.more;
+        let start = answer_lines(&input[0..end], held, output);
+        block = blocks::next(input, block, start, OVER);
     }
-    held
 }
 
-// Reads a block after the bytes held, and gives its count of bytes: none at the end of the input, or where reading fails.
-fn read_more(input: &mut [u8], held: usize) -> usize
-    requires { ⌜ held ≤ length (now input) ⌝ }
-    ensures { λ r. ⌜ held + r ≤ length (now (input .entry)) ⌝ }
-{
-    let space = &mut input[held..];
-    let got = libc::read(STDIN_FILENO, space);
-    io::count(got, space)
-}
-
-// Answers the lines that end in a block, and holds the beginning of what is left of it. The first `held` bytes are known to have no byte 10.
-fn take_block(input: &mut [u8], held: usize, filled: usize, output: &mut [u8]) -> usize
-    requires { ⌜ (held ≤ filled) × (filled ≤ length (now input)) ⌝ }
-    requires { ⌜ 1024 ≤ length (now output) ⌝ }
-    ensures { λ r. ⌜ r ≤ 4097 ⌝ }
-{
-    let start = answer_lines(&input[0..filled], held, output);
-    lines::hold(input, start, filled, OVER)
-}
-
-// Answers each line that ends in a block, and gives the place where the line after the last of them begins.
+// Answers each line that ends in a block, and gives the place where the line after the last of them begins. The first `held` bytes are
+// known to have no byte 10.
 fn answer_lines(block: &[u8], held: usize, output: &mut [u8]) -> usize
     requires { ⌜ held ≤ length (now block) ⌝ }
     requires { ⌜ 1024 ≤ length (now output) ⌝ }
@@ -81,7 +45,7 @@ fn answer_lines(block: &[u8], held: usize, output: &mut [u8]) -> usize
         start = end + 1;
         end = lines::line_end(block, start);
     }
-    io::write_all(STDOUT_FILENO, &output[0..put]);
+    blocks::write_out(&output[0..put]);
     start
 }
 
@@ -90,20 +54,8 @@ fn put_answer(line: &[u8], output: &mut [u8], put: usize) -> usize
     requires { ⌜ (put ≤ length (now output)) × (1024 ≤ length (now output)) ⌝ }
     ensures { λ r. ⌜ r ≤ length (now (output .entry)) ⌝ }
 {
-    let at = make_room(output, put);
+    let at = blocks::make_room(output, put, LONGEST_ANSWER);
     at + answer_line(line, &mut output[at..])
-}
-
-// Where the next answer goes: after the others if it fits there for certain, else at the front, once they are written out.
-fn make_room(output: &[u8], put: usize) -> usize
-    requires { ⌜ (put ≤ length (now output)) × (1024 ≤ length (now output)) ⌝ }
-    ensures { λ r. ⌜ r + 1024 ≤ length (now (output .entry)) ⌝ }
-{
-    if LONGEST_ANSWER <= output.len() - put {
-        return put;
-    }
-    io::write_all(STDOUT_FILENO, &output[0..put]);
-    0
 }
 
 fn answer_line(line: &[u8], output: &mut [u8]) -> usize
@@ -114,15 +66,4 @@ fn answer_line(line: &[u8], output: &mut [u8]) -> usize
         return calls::answer(line, output);
     }
     calls::too_long(output)
-}
-
-// Answers the bytes after the last byte 10, if there are any.
-fn finish(line: &[u8], output: &mut [u8])
-    requires { ⌜ 1024 ≤ length (now output) ⌝ }
-{
-    if line.len() == 0 {
-        return;
-    }
-    let put = answer_line(line, output);
-    io::write_all(STDOUT_FILENO, &output[0..put]);
 }

@@ -1,5 +1,5 @@
-// What is typed as an argument: a list of widths, a message.
-ghost use Prim.Native.Nat.{_≤_, _<_};
+// A list of widths, typed as an argument.
+ghost use Prim.Native.Nat.{_<_};
 ghost use lib.ListN.{length};
 ghost use Rattle.dialogue.specs.Places.{Counted};
 use text::Number;
@@ -52,12 +52,4 @@ fn numbers_in(text: &[u8], widths: &mut [u8]) -> Widths
         from = end + 1;
     }
     Widths::Count(count)
-}
-
-// The message that was typed, as far as it fits. A message has at most 48 bytes and the data of a string at most 30, so what is longer than
-// 64 bytes is refused alike, whatever it goes on with.
-pub fn message_in(typed: &[u8], message: &mut [u8]) -> usize
-    ensures { λ r. ⌜ r ≤ length (now (message .entry)) ⌝ }
-{
-    text::message_in(typed, message)
 }

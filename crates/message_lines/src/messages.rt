@@ -1,11 +1,13 @@
 // `test MESSAGE`, `ask ID MESSAGE` and `add ID DATA MESSAGE`: a message tested, asked for an identifier, and added to.
+//
+// A message has at most 48 bytes and the data of a string at most 30, so of what is typed 64 bytes suffice: what is longer is refused alike,
+// whatever it goes on with.
 ghost use Prim.Native.Nat.{_≤_, _<_};
 ghost use lib.ListN.{length};
 ghost use Rattle.dialogue.specs.Places.{placesOf};
 use dialogue::answers;
 use dialogue::answers::Form;
 use dialogue::room::Room;
-use dialogue::typed;
 use refusal::Answer;
 use text::Number;
 
@@ -15,14 +17,7 @@ pub fn test(text: &[u8], out: &mut [u8]) -> usize
     ensures { λ r. ⌜ (0 < r) × (r ≤ 1024) ⌝ }
 {
     let mut message = [0u8; 64];
-    test_in(text, &mut message, out)
-}
-
-fn test_in(text: &[u8], message: &mut [u8], out: &mut [u8]) -> usize
-    requires { ⌜ 1024 ≤ length (now out) ⌝ }
-    ensures { λ r. ⌜ (0 < r) × (r ≤ 1024) ⌝ }
-{
-    let end = typed::message_in(text, message);
+    let end = text::message_in(text, &mut message);
     answers::put_answer(elements::test(&message[0..end]), out)
 }
 
@@ -40,15 +35,8 @@ pub fn ask(text: &[u8], out: &mut [u8]) -> usize
     };
     let from = end + 1;
     let mut message = [0u8; 64];
-    ask_in(identifier, &text[from..], &mut message, out)
-}
-
-fn ask_in(identifier: usize, text: &[u8], message: &mut [u8], out: &mut [u8]) -> usize
-    requires { ⌜ 1024 ≤ length (now out) ⌝ }
-    ensures { λ r. ⌜ (0 < r) × (r ≤ 1024) ⌝ }
-{
-    let end = typed::message_in(text, message);
-    put_asked(&message[0..end], identifier, out)
+    let count = text::message_in(&text[from..], &mut message);
+    put_asked(&message[0..count], identifier, out)
 }
 
 fn put_asked(message: &[u8], identifier: usize, out: &mut [u8]) -> usize
@@ -92,7 +80,7 @@ fn add_data(identifier: usize, text: &[u8], room: Room, out: &mut [u8]) -> usize
     }
     let from = end + 1;
     let mut content = [0u8; 64];
-    let count = typed::message_in(&text[0..end], &mut content);
+    let count = text::message_in(&text[0..end], &mut content);
     add_to(identifier, &content[0..count], &text[from..], room, out)
 }
 
@@ -119,7 +107,7 @@ fn add_in(
     requires { ⌜ 1024 ≤ length (now out) ⌝ }
     ensures { λ r. ⌜ (0 < r) × (r ≤ 1024) ⌝ }
 {
-    typed::message_in(text, buffer);
+    text::message_in(text, buffer);
     let answer = adding::add(buffer, text.len(), identifier, content);
     answers::put_made(answer, Form::Bytes, buffer, out)
 }

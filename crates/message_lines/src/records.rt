@@ -4,7 +4,6 @@ ghost use lib.ListN.{length};
 ghost use Rattle.dialogue.specs.Places.{Filled};
 use dialogue::answers;
 use dialogue::room::Room;
-use dialogue::typed;
 use refusal::Answer;
 use splitting::Record;
 use splitting::Splitting;
@@ -14,7 +13,7 @@ pub fn split(typed: &[u8], room: Room, out: &mut [u8]) -> usize
     ensures { λ r. ⌜ (0 < r) × (r ≤ 1024) ⌝ }
 {
     let mut message = [0u8; 64];
-    let end = typed::message_in(typed, &mut message);
+    let end = text::message_in(typed, &mut message);
     let places = room.places(12);
     put_split(splitting::split_twelve(&message[0..end], places), out)
 }
@@ -38,7 +37,7 @@ fn put_records(records: [Record; 12], count: usize, out: &mut [u8]) -> usize
     requires { ⌜ 1024 ≤ length (now out) ⌝ }
     ensures { λ r. ⌜ (0 < r) × (r ≤ 1024) ⌝ }
 {
-    let mut at = answers::put_pair(0, count, out);
+    let mut at = text::put_pair(0, count, out);
     let mut i = 0;
     while i < count {
         at = put_record(records[i], out, at);

@@ -1,16 +1,17 @@
 -- A number written and read again is the same number: its digits are digits, and reading one digit more takes the number so far ten
 -- times and adds it, which undoes the writer's step from a number to its tenth part.
 use Prim.Native.Nat.{ℕ, zero, suc, _+_, _*_, _/_, _≤_, _<_}
-use mathlib.Core.Path.{_≡_, refl, sym, _∙_}
-use mathlib.Core.Bool.{Bool, true, false, cond}
+use mathlib.Core.Path.{_≡_, refl, _∙_}
+use mathlib.Core.Bool.{true}
 use mathlib.Core.List.{List, [], _∷_, _++_}
-use native.Mathlib.Nat.{not-suc-le-zero, suc-inj}
+use native.Mathlib.Nat.{not-suc-le-zero}
 use native.Mathlib.Decide.{decLt}
 use native.Mathlib.Omega.{arith}
-use lib.ListN.{length, length-append}
+use lib.ListN.{length}
 use borrow.Author.Tests.{le-leb, eq-eqb}
 use Rattle.laws.specs.First.{firstNot}
 use Rattle.laws.proofs.FirstLaws.{first-of-nil}
+use Rattle.laws.proofs.FirstChanged.{pass-last}
 use Rattle.digits.specs.Digit.{isDigit, valueOf}
 use Rattle.text.specs.declared.Number.the-variants.{Is}
 use Rattle.text.specs.Decimal.{lastOf, decimalOf}
@@ -24,15 +25,6 @@ unfolding numberFrom
 number-then n [] b = refl
 number-then n (a ∷ bytes) b = number-then (n * 10 + valueOf a) bytes b
 
-digits-then : (bytes : List ℕ) (b : ℕ) → isDigit b ≡ true → firstNot isDigit bytes ≡ length bytes → firstNot isDigit (bytes ++ (b ∷ [])) ≡ length bytes + 1
-unfolding firstNot
-digits-then [] b e all = rw e
-digits-then (a ∷ bytes) b e all = go (isDigit a) all (digits-then bytes b e)
-  where
-    go : (first : Bool) → cond first (suc (firstNot isDigit bytes)) zero ≡ suc (length bytes) → (firstNot isDigit bytes ≡ length bytes → firstNot isDigit (bytes ++ (b ∷ [])) ≡ length bytes + 1) → cond first (suc (firstNot isDigit (bytes ++ (b ∷ [])))) zero ≡ suc (length bytes) + 1
-    go true all rest = omega (arith, rest (suc-inj all))
-    go false all rest = absurd (omega arith)
-
 last-is-digit : (n : ℕ) → isDigit (lastOf n) ≡ true
 last-is-digit n = simp (le-leb 48 (lastOf n) (omega arith), le-leb (lastOf n) 57 (omega arith))
 
@@ -44,11 +36,11 @@ written (suc steps) n h = go (decLt n 10) (λ large. written steps (n / 10) (ome
     go : Dec (n < 10) → (10 ≤ n → (firstNot isDigit (decimalOf (n / 10)) ≡ length (decimalOf (n / 10))) × (numberFrom 0 (decimalOf (n / 10)) ≡ n / 10)) → (firstNot isDigit (decimalOf n) ≡ length (decimalOf n)) × (numberFrom 0 (decimalOf n) ≡ n)
     go (yes small) tenth =
         rw (decimal-one n small)
-        (digits-then [] (lastOf n) (last-is-digit n) (first-of-nil isDigit), number-then 0 [] (lastOf n) ∙ omega (arith, number-of-nil 0))
+        (pass-last isDigit [] (lastOf n) (first-of-nil isDigit) (last-is-digit n), number-then 0 [] (lastOf n) ∙ omega (arith, number-of-nil 0))
     go (no few) tenth =
         let before = tenth (omega arith) in
         rw (decimal-more n (omega arith))
-        (digits-then (decimalOf (n / 10)) (lastOf n) (last-is-digit n) (before .0) ∙ sym (length-append (decimalOf (n / 10)) (lastOf n ∷ [])), number-then 0 (decimalOf (n / 10)) (lastOf n) ∙ omega (arith, before .1))
+        (pass-last isDigit (decimalOf (n / 10)) (lastOf n) (before .0) (last-is-digit n), number-then 0 (decimalOf (n / 10)) (lastOf n) ∙ omega (arith, before .1))
 
 pub number-of-decimal : (n most : ℕ) → n ≤ most → numberIn (decimalOf n) most ≡ Is n
 unfolding numberIn

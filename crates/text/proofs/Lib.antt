@@ -1,4 +1,4 @@
--- Laws of numbers as text.
+-- Laws of numbers and widths as text.
 --
 --   Back          a number written and read again is the same
 --   DecimalLaws   the digits of a number, met by a function that calls itself

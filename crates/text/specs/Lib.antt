@@ -5,7 +5,7 @@
 --   Puts                     Puts      bytes written at the front of a lent list, and their count answered
 --   isNumeral, numberFrom    Numeral   bytes that are a decimal numeral, and the number that they say
 --   numberIn                 Numeral   the rule of reading a numeral that says at most a given number
---   meant, messageOf         Typed     the message that typed bytes stand for, `^` for a separator
+--   messageOf, typedOf       Typed     the message that typed bytes stand for, `^` for a separator, and a message as it is typed
 --   runTogether              Widths    widths, one digit each
 pub mod Decimal
 pub mod Puts

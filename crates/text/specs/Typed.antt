@@ -4,8 +4,13 @@ use mathlib.Core.Bool.{cond}
 use mathlib.Core.List.{List, map}
 use lib.Dec.{eqb}
 
-abbrev pub meant : ℕ → ℕ
-meant byte = cond (eqb byte 94) 29 byte
+abbrev pub replacing : ℕ → ℕ → ℕ → ℕ
+replacing old new byte = cond (eqb byte old) new byte
 
+-- the message that typed bytes stand for
 abbrev pub messageOf : List ℕ → List ℕ
-messageOf typed = map meant typed
+messageOf typed = map (replacing 94 29) typed
+
+-- a message as it is typed
+abbrev pub typedOf : List ℕ → List ℕ
+typedOf message = map (replacing 29 94) message

@@ -3,6 +3,7 @@ mod typed;
 mod widths;
 
 pub use typed::message_in;
+pub use typed::put_message;
 pub use widths::put_widths;
 ghost use mathlib.Core.Path.{_≡_};
 ghost use Prim.Native.Nat.{_≤_};

@@ -1,4 +1,5 @@
 // Widths as text.
+ghost use mathlib.Core.Path.{_≡_};
 ghost use Prim.Native.Nat.{_≤_};
 ghost use lib.ListN.{length};
 ghost use Rattle.laws.specs.Below.{Below};
@@ -10,6 +11,7 @@ pub fn put_widths(widths: &[u8], out: &mut [u8]) -> usize
     requires { ⌜ Below 10 (now widths) ⌝ }
     requires { ⌜ length (now widths) ≤ length (now out) ⌝ }
     ensures { λ r. ⌜ Puts (runTogether (now (widths .entry))) (now (out .entry)) r (now (out .exit)) ⌝ }
+    ensures { λ r. ⌜ r ≡ length (now (widths .entry)) ⌝ }
 {
     let mut i = 0;
     while i < widths.len() {

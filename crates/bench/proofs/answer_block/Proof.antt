@@ -24,9 +24,6 @@ Inv-loop block output₀ done₀ output done =
 abbrev μ-loop : tie.MeasureT-loop
 μ-loop block output₀ done₀ output done = 2 * (length block - done .next) + min 1 (done .put)
 
-answer-lines-requires : tie.Need-answer-lines-requires Inv-loop μ-loop
-answer-lines-requires c κs = omega arith
-
 -- the first lines are answered
 module _ (c : tie.After-answer-lines Inv-loop μ-loop) where
   abbrev lent : tie.Start Inv-loop μ-loop
@@ -43,21 +40,6 @@ loop-holds c =
       cut-more (args .block .now) 0 (args .output .now) (done .result .next) (done .result .put) (done .last .1 .1 .0) (cut-none (args .block .now)) (done .ensures .0),
       none-ends (length (args .output .now)) (done .result .put) (omega arith) (done .ensures .1 .1),
     )
-
-sub-write-all : tie.Need-sub-write-all Inv-loop μ-loop
-sub-write-all c = omega arith
-
-part-write-all-start : tie.Need-part-write-all-start Inv-loop μ-loop
-part-write-all-start c = omega arith
-
-part-write-all-end : tie.Need-part-write-all-end Inv-loop μ-loop
-part-write-all-end c = omega arith
-
-write-all-requires : tie.Need-write-all-requires Inv-loop μ-loop
-write-all-requires c κs = tt
-
-answer-lines-requires-2 : tie.Need-answer-lines-requires-2 Inv-loop μ-loop
-answer-lines-requires-2 c κs = omega arith
 
 -- a turn, where further lines are answered
 module _ (c : tie.After-answer-lines2 Inv-loop μ-loop) where
@@ -82,9 +64,6 @@ loop-again c =
       none-ends (length (loop .output)) (done .result .put) (omega arith) (done .ensures .1 .1),
     )
 
-same-length : tie.Need-same-length Inv-loop μ-loop
-same-length c = omega arith
-
 returns : tie.Need-returns Inv-loop μ-loop
 returns c =
     let loop = c .before .before .loop in
@@ -96,14 +75,14 @@ answer-block-spec =
     (tie.spec
     Inv-loop
     μ-loop
-    answer-lines-requires
+    (λ c κs. omega arith)
     loop-holds
-    sub-write-all
-    part-write-all-start
-    part-write-all-end
-    write-all-requires
-    answer-lines-requires-2
+    (λ c. omega arith)
+    (λ c. omega arith)
+    (λ c. omega arith)
+    (λ c κs. tt)
+    (λ c κs. omega arith)
     loop-less
     loop-again
-    same-length
+    (λ c. omega arith)
     returns)

@@ -22,9 +22,6 @@ abbrev μ-loop : tie.MeasureT-loop
 loop-holds : tie.Need-loop-holds Inv-loop μ-loop
 loop-holds c = (omega arith, refl)
 
-shared-slice-read-if1 : tie.Need-shared-slice-read-if1 Inv-loop μ-loop
-shared-slice-read-if1 c = omega arith
-
 returns : tie.Need-returns Inv-loop μ-loop
 returns c =
     let byte = c .before .before .before .before .args .byte in
@@ -32,12 +29,6 @@ returns c =
     let i = c .before .before .before .loop .i in
     let stops : firstNot (otherThan byte) (drop i bytes) ≡ 0 = first-stops (otherThan byte) bytes i 0 (omega arith) (ap not (eq-eqb _ _ (c .if1 .taken))) in
     (omega arith, omega arith)
-
-add-i : tie.Need-add-i Inv-loop μ-loop
-add-i c = omega arith
-
-loop-less : tie.Need-loop-less Inv-loop μ-loop
-loop-less c = omega arith
 
 loop-again : tie.Need-loop-again Inv-loop μ-loop
 loop-again c =
@@ -62,9 +53,9 @@ place-of-spec =
     Inv-loop
     μ-loop
     loop-holds
-    shared-slice-read-if1
+    (λ c. omega arith)
     returns
-    add-i
-    loop-less
+    (λ c. omega arith)
+    (λ c. omega arith)
     loop-again
     returns-2)

@@ -25,14 +25,8 @@ at t = and 1 kinds.ps (is 1 kinds.ps μ t) reads.Pre
 abbrev below : ℕ → In 1 kinds.ps
 below t = and 1 kinds.ps (falls 1 kinds.ps _<_ μ t) reads.Pre
 
-last-of-requires : (t : ℕ) → lts.Need-last-of-requires (last-of.Asked, last-of.Learnt, below t, reads.Post) (at t) reads.Post
-last-of-requires t c κs = tt
-
 slice-write-out : (t : ℕ) → lts.Need-slice-write-out (last-of.Asked, last-of.Learnt, below t, reads.Post) (at t) reads.Post
 slice-write-out t c = omega (arith, length-one (c .before .before .before .args .n) (omega arith))
-
-same-length : (t : ℕ) → lts.Need-same-length (last-of.Asked, last-of.Learnt, below t, reads.Post) (at t) reads.Post
-same-length t c = simp length-set
 
 returns : (t : ℕ) → lts.Need-returns (last-of.Asked, last-of.Learnt, below t, reads.Post) (at t) reads.Post
 returns t c =
@@ -42,9 +36,6 @@ returns t c =
 put-digits-requires : (t : ℕ) → lts.Need-put-digits-requires (last-of.Asked, last-of.Learnt, below t, reads.Post) (at t) reads.Post
 put-digits-requires t c κs =
     (omega arith, omega (arith, length-more (c .before .before .before .args .n) (omega arith)))
-
-last-of-requires-2 : (t : ℕ) → lts.Need-last-of-requires-2 (last-of.Asked, last-of.Learnt, below t, reads.Post) (at t) reads.Post
-last-of-requires-2 t c κs = tt
 
 slice-write-out-2 : (t : ℕ) → lts.Need-slice-write-out-2 (last-of.Asked, last-of.Learnt, below t, reads.Post) (at t) reads.Post
 slice-write-out-2 t c =
@@ -77,12 +68,12 @@ pub +put-digits-spec : {M : Type 1} → statement M
 )
     (at t)
     reads.Post
-    (last-of-requires t)
+    (λ c κs. tt)
     (slice-write-out t)
-    (same-length t)
+    (λ c. simp length-set)
     (returns t)
     (put-digits-requires t)
-    (last-of-requires-2 t)
+    (λ c κs. tt)
     (slice-write-out-2 t)
     (add-result t)
     (same-length-2 t)

@@ -26,9 +26,6 @@ returns : tie.Need-returns Inv-loop μ-loop
 unfolding numberIn
 returns c = simp (lt-leb _ _ (c .if1 .taken))
 
-first-other-requires : tie.Need-first-other-requires Inv-loop μ-loop
-first-other-requires c κs = tt
-
 returns-2 : tie.Need-returns-2 Inv-loop μ-loop
 unfolding numberIn
 returns-2 c =
@@ -38,12 +35,6 @@ returns-2 c =
 loop-holds : tie.Need-loop-holds Inv-loop μ-loop
 loop-holds c =
     (omega arith, omega arith, omega arith, all-digits (c .before .before .before .before .args .bytes .now) (omega arith), refl)
-
-mul-value : tie.Need-mul-value Inv-loop μ-loop
-mul-value c = omega arith
-
-shared-slice-read-value-of : tie.Need-shared-slice-read-value-of Inv-loop μ-loop
-shared-slice-read-value-of c = omega arith
 
 value-of-requires : tie.Need-value-of-requires Inv-loop μ-loop
 value-of-requires c κs =
@@ -69,12 +60,6 @@ returns-3 c =
       eq-eqb (firstNot isDigit bytes) (length bytes) (loop .inv .3),
       lt-leb (numberFrom 0 bytes) (args .most) (omega (arith, more, grows)),
     )
-
-add-i : tie.Need-add-i Inv-loop μ-loop
-add-i c = omega arith
-
-loop-less : tie.Need-loop-less Inv-loop μ-loop
-loop-less c = omega arith
 
 loop-again : tie.Need-loop-again Inv-loop μ-loop
 loop-again c =
@@ -110,15 +95,15 @@ number-in-spec =
     Inv-loop
     μ-loop
     returns
-    first-other-requires
+    (λ c κs. tt)
     returns-2
     loop-holds
-    mul-value
-    shared-slice-read-value-of
+    (λ c. omega arith)
+    (λ c. omega arith)
     value-of-requires
     add-value
     returns-3
-    add-i
-    loop-less
+    (λ c. omega arith)
+    (λ c. omega arith)
     loop-again
     returns-4)

@@ -7,29 +7,8 @@ use Rattle.text.proofs.PutsLaws.{puts-more, puts-then}
 use Rattle.text.proofs.put_pair.Statement.{statement}
 use Rattle.text.proofs.put_pair.Tie as tie
 
-put-number-requires : tie.Need-put-number-requires
-put-number-requires c κs = search needs
-
-slice-write-out : tie.Need-slice-write-out
-slice-write-out c = search needs
-
-add-from : tie.Need-add-from
-add-from c = search needs
-
-sub-put-number : tie.Need-sub-put-number
-sub-put-number c = simp length-set (omega arith)
-
-part-put-number-start : tie.Need-part-put-number-start
-part-put-number-start c = simp length-set (omega arith)
-
-part-put-number-end : tie.Need-part-put-number-end
-part-put-number-end c = search needs
-
 put-number-requires-2 : tie.Need-put-number-requires-2
 put-number-requires-2 c κs = simp (length-take, length-drop, length-set) (omega arith)
-
-add-result : tie.Need-add-result
-add-result c = search needs
 
 same-length : tie.Need-same-length
 same-length c =
@@ -45,13 +24,13 @@ pub put-pair-spec : {M : Type 1} → statement M
 put-pair-spec =
     tie.close
     (tie.spec
-    put-number-requires
-    slice-write-out
-    add-from
-    sub-put-number
-    part-put-number-start
-    part-put-number-end
+    (λ c κs. search needs)
+    (λ c. search needs)
+    (λ c. search needs)
+    (λ c. simp length-set (omega arith))
+    (λ c. simp length-set (omega arith))
+    (λ c. search needs)
     put-number-requires-2
-    add-result
+    (λ c. search needs)
     same-length
     returns)

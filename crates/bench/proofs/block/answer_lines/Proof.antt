@@ -26,32 +26,8 @@ Inv-loop block from out₀ next₀ put₀ end₀ out next put end =
 abbrev μ-loop : tie.MeasureT-loop
 μ-loop block from out₀ next₀ put₀ end₀ out next put end = length block - end
 
-line-end-requires : tie.Need-line-end-requires Inv-loop μ-loop
-line-end-requires c κs = omega arith
-
 loop-holds : tie.Need-loop-holds Inv-loop μ-loop
 loop-holds c = (omega arith, omega arith, omega arith, omega arith, refl, c .line-end .ensures .0, answered-none _ _ _)
-
-sub-if1 : tie.Need-sub-if1 Inv-loop μ-loop
-sub-if1 c = omega arith
-
-sub-answer : tie.Need-sub-answer Inv-loop μ-loop
-sub-answer c = omega arith
-
-part-answer-start : tie.Need-part-answer-start Inv-loop μ-loop
-part-answer-start c = omega arith
-
-part-answer-end : tie.Need-part-answer-end Inv-loop μ-loop
-part-answer-end c = omega arith
-
-sub-answer-2 : tie.Need-sub-answer-2 Inv-loop μ-loop
-sub-answer-2 c = omega arith
-
-part-answer-start-2 : tie.Need-part-answer-start-2 Inv-loop μ-loop
-part-answer-start-2 c = omega arith
-
-part-answer-end-2 : tie.Need-part-answer-end-2 Inv-loop μ-loop
-part-answer-end-2 c = omega arith
 
 answer-requires : tie.Need-answer-requires Inv-loop μ-loop
 answer-requires c κs = simp (length-take, length-drop) (omega (arith, leb-true))
@@ -70,15 +46,6 @@ add-put c =
     let answer = c .before .before .answer in
     omega (arith, room-left _ (loop .out) (loop .put) (answer .result) (answer .last .1 .0) (omega arith) (answer .ensures) (answer .kept .1 .0))
 
-add-next : tie.Need-add-next Inv-loop μ-loop
-add-next c = omega arith
-
-line-end-requires-2 : tie.Need-line-end-requires-2 Inv-loop μ-loop
-line-end-requires-2 c κs = omega arith
-
-loop-less : tie.Need-loop-less Inv-loop μ-loop
-loop-less c = omega arith
-
 loop-again : tie.Need-loop-again Inv-loop μ-loop
 loop-again c =
     let at = c .before .before .before in
@@ -96,16 +63,10 @@ loop-again c =
       answered-more (args .block .now) (args .from) (args .out .now) (loop .next) (loop .put) (loop .out) (loop .end) (loop .inv .5) (omega arith) (answer .result) (answer .last .1 .0) (loop .inv .6) (answer .ensures),
     )
 
-same-length : tie.Need-same-length Inv-loop μ-loop
-same-length c = omega arith
-
 returns : tie.Need-returns Inv-loop μ-loop
 returns c =
     let loop = c .before .before .loop in
     (loop .inv .6, ((omega arith, omega arith), inr (omega (arith, leb-false))))
-
-same-length-2 : tie.Need-same-length-2 Inv-loop μ-loop
-same-length-2 c = omega arith
 
 returns-2 : tie.Need-returns-2 Inv-loop μ-loop
 returns-2 c =
@@ -118,22 +79,22 @@ answer-lines-spec =
     (tie.spec
     Inv-loop
     μ-loop
-    line-end-requires
+    (λ c κs. omega arith)
     loop-holds
-    sub-if1
-    sub-answer
-    part-answer-start
-    part-answer-end
-    sub-answer-2
-    part-answer-start-2
-    part-answer-end-2
+    (λ c. omega arith)
+    (λ c. omega arith)
+    (λ c. omega arith)
+    (λ c. omega arith)
+    (λ c. omega arith)
+    (λ c. omega arith)
+    (λ c. omega arith)
     answer-requires
     add-put
-    add-next
-    line-end-requires-2
-    loop-less
+    (λ c. omega arith)
+    (λ c κs. omega arith)
+    (λ c. omega arith)
     loop-again
-    same-length
+    (λ c. omega arith)
     returns
-    same-length-2
+    (λ c. omega arith)
     returns-2)

@@ -8,21 +8,12 @@ use native.Mathlib.Omega.{arith}
 use lib.ListN.{length, take}
 use borrow.Author.Needs.{needs}
 use Rattle.text.specs.Typed.{messageOf}
-use Rattle.text.proofs.PutsLaws.{puts-front, puts-within}
-use Rattle.gs1_128.specs.Calls.{writes}
+use Rattle.text.proofs.PutsLaws.{puts-front}
+use Rattle.gs1_128.specs.Rules.{writes}
 use Rattle.bench.specs.Line.{answers}
 use Rattle.bench.proofs.WrittenLaws.{written-cut, in-any-room}
 use Rattle.bench.proofs.line.answer_in.Statement.{statement}
 use Rattle.bench.proofs.line.answer_in.Tie as tie
-
-message-in-requires : tie.Need-message-in-requires
-message-in-requires c κs = search needs
-
-sub-put-symbol : tie.Need-sub-put-symbol
-sub-put-symbol c = search needs
-
-part-put-symbol-start : tie.Need-part-put-symbol-start
-part-put-symbol-start c = search needs
 
 -- where the line's message has been put
 module _ (c : tie.After-message2) where
@@ -31,23 +22,6 @@ module _ (c : tie.After-message2) where
 
   abbrev lent : tie.Start
   lent = found .before .before .before .before .before .before
-
-part-put-symbol-end : tie.Need-part-put-symbol-end
-part-put-symbol-end c =
-    let put = found c .message-in in
-    omega (arith, puts-within _ (lent c .args .message .now) (put .result) (put .last .1 .0) (put .ensures) (put .kept .1 .0))
-
-put-symbol-requires : tie.Need-put-symbol-requires
-put-symbol-requires c κs = search needs
-
-same-length : tie.Need-same-length
-same-length c = search needs
-
-same-length-2 : tie.Need-same-length-2
-same-length-2 c = search needs
-
-same-length-3 : tie.Need-same-length-3
-same-length-3 c = search needs
 
 -- where its symbol has been put
 module _ (c : tie.After-slice-known6) where
@@ -65,7 +39,7 @@ returns c =
     let message = messageOf (args .line .now) in
     let size : length (args .message .now) ≡ 49 = omega arith in
     let cut : take (put .result - 0) (put .last .1 .0) ≡ take 49 message =
-    rw sub-zero (puts-front (take (length (args .message .now)) message) (args .message .now) (put .result) (put .last .1 .0) (put .ensures) ∙ ap (λ (n : ℕ). take n message) size) in
+    rw sub-zero (puts-front (take (length (args .message .now)) message) (args .message .now) (put .result) (put .last .1 .0) (put .ensures .0) ∙ ap (λ (n : ℕ). take n message) size) in
     let same = ap (λ (m : List ℕ). writes m 313) cut ∙ written-cut message 313 ∙ in-any-room message 313 619 (omega arith) (omega arith) in
     rw (← same) (answered c .put-symbol .ensures)
 
@@ -73,12 +47,12 @@ pub answer-in-spec : {M : Type 1} → statement M
 answer-in-spec =
     tie.close
     (tie.spec
-    message-in-requires
-    sub-put-symbol
-    part-put-symbol-start
-    part-put-symbol-end
-    put-symbol-requires
-    same-length
-    same-length-2
-    same-length-3
+    (λ c κs. search needs)
+    (λ c. search needs)
+    (λ c. search needs)
+    (λ c. search needs)
+    (λ c κs. search needs)
+    (λ c. search needs)
+    (λ c. search needs)
+    (λ c. search needs)
     returns)

@@ -5,24 +5,6 @@ use Rattle.text.proofs.PutsLaws.{puts-more}
 use Rattle.bench.proofs.line.put_refusal.Statement.{statement}
 use Rattle.bench.proofs.line.put_refusal.Tie as tie
 
-number-requires : tie.Need-number-requires
-number-requires c κs = search needs
-
-place-requires : tie.Need-place-requires
-place-requires c κs = search needs
-
-put-pair-requires : tie.Need-put-pair-requires
-put-pair-requires c κs = search needs
-
-slice-write-out : tie.Need-slice-write-out
-slice-write-out c = omega arith
-
-add-result : tie.Need-add-result
-add-result c = omega arith
-
-same-length : tie.Need-same-length
-same-length c = search needs
-
 -- where the refusal's two numbers stand
 module _ (c : tie.After-put-pair) where
   abbrev placed : tie.After-place
@@ -38,10 +20,10 @@ pub put-refusal-spec : {M : Type 1} → statement M
 put-refusal-spec =
     tie.close
     (tie.spec
-    number-requires
-    place-requires
-    put-pair-requires
-    slice-write-out
-    add-result
-    same-length
+    (λ c κs. search needs)
+    (λ c κs. search needs)
+    (λ c κs. search needs)
+    (λ c. omega arith)
+    (λ c. omega arith)
+    (λ c. search needs)
     returns)

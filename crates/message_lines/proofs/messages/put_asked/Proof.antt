@@ -7,50 +7,23 @@ use Rattle.message_lines.proofs.Counts.{part-short}
 use Rattle.message_lines.proofs.messages.put_asked.Statement.{statement}
 use Rattle.message_lines.proofs.messages.put_asked.Tie as tie
 
-asked-requires : tie.Need-asked-requires
-asked-requires c κs = search needs
-
-enum-told : tie.Need-enum-told
-enum-told c = search needs
-
-enum-told-2 : tie.Need-enum-told-2
-enum-told-2 c = search needs
-
-put-answer-requires : tie.Need-put-answer-requires
-put-answer-requires c κs = search needs
-
-same-length : tie.Need-same-length
-same-length c = search needs
-
-returns : tie.Need-returns
-returns c = search needs
-
-ask-requires : tie.Need-ask-requires
-ask-requires c κs = search needs
-
 put-counted-requires : tie.Need-put-counted-requires
 put-counted-requires c κs =
     let start = c .before .before .before .before .before .before .before in
     let message = start .args .message .now in
-    (omega (arith, ap length (c .before .ask .ensures), part-short message (start .args .identifier)), search needs)
-
-same-length-2 : tie.Need-same-length-2
-same-length-2 c = search needs
-
-returns-2 : tie.Need-returns-2
-returns-2 c = search needs
+    (tt, (omega (arith, ap length (c .before .ask .ensures), part-short message (start .args .identifier)), search needs))
 
 pub put-asked-spec : {M : Type 1} → statement M
 put-asked-spec =
     tie.close
     (tie.spec
-    asked-requires
-    enum-told
-    enum-told-2
-    put-answer-requires
-    same-length
-    returns
-    ask-requires
+    (λ c κs. search needs)
+    (λ c. search needs)
+    (λ c. search needs)
+    (λ c κs. search needs)
+    (λ c. search needs)
+    (λ c. search needs)
+    (λ c κs. search needs)
     put-counted-requires
-    same-length-2
-    returns-2)
+    (λ c. search needs)
+    (λ c. search needs))

@@ -16,24 +16,6 @@ Inv-loop widths out₀ i₀ out i = (i ≤ length widths) × (length out ≡ len
 abbrev μ-loop : tie.MeasureT-loop
 μ-loop widths out₀ i₀ out i = length widths - i
 
-loop-holds : tie.Need-loop-holds Inv-loop μ-loop
-loop-holds c = (omega arith, refl, refl)
-
-shared-slice-read-out : tie.Need-shared-slice-read-out Inv-loop μ-loop
-shared-slice-read-out c = omega arith
-
-add-out : tie.Need-add-out Inv-loop μ-loop
-add-out c = omega (arith, c .before .before .before .pre .0 (c .before .before .loop .i) (omega arith))
-
-slice-write-out : tie.Need-slice-write-out Inv-loop μ-loop
-slice-write-out c = omega arith
-
-add-i : tie.Need-add-i Inv-loop μ-loop
-add-i c = omega arith
-
-loop-less : tie.Need-loop-less Inv-loop μ-loop
-loop-less c = omega arith
-
 loop-again : tie.Need-loop-again Inv-loop μ-loop
 loop-again c =
     let loop = c .before .before .loop in
@@ -43,14 +25,11 @@ loop-again c =
       rw (loop .inv .2) (mapped-more (λ (width : ℕ). 48 + width) (args .widths .now) (args .out .now) (loop .i) 0 (omega arith) (omega arith)),
     )
 
-same-length : tie.Need-same-length Inv-loop μ-loop
-same-length c = omega arith
-
 returns : tie.Need-returns Inv-loop μ-loop
 returns c =
     let loop = c .before .loop in
     let args = c .before .before .args in
-    puts-whole (runTogether (args .widths .now)) (args .out .now) (loop .i) (loop .out) (rw length-map (omega arith)) (loop .inv .2)
+    (puts-whole (runTogether (args .widths .now)) (args .out .now) (loop .i) (loop .out) (rw length-map (omega arith)) (loop .inv .2), omega arith)
 
 pub put-widths-spec : {M : Type 1} → statement M
 put-widths-spec =
@@ -58,12 +37,12 @@ put-widths-spec =
     (tie.spec
     Inv-loop
     μ-loop
-    loop-holds
-    shared-slice-read-out
-    add-out
-    slice-write-out
-    add-i
-    loop-less
+    (λ c. (omega arith, refl, refl))
+    (λ c. omega arith)
+    (λ c. omega (arith, c .before .before .before .pre .0 (c .before .before .loop .i) (omega arith)))
+    (λ c. omega arith)
+    (λ c. omega arith)
+    (λ c. omega arith)
     loop-again
-    same-length
+    (λ c. omega arith)
     returns)

@@ -1,4 +1,4 @@
--- `lines::keep` meets its contract: after i turns the front holds i bytes from `from` on and the rest is as it was, and the byte moved
+-- `blocks::keep` meets its contract: after i turns the front holds i bytes from `from` on and the rest is as it was, and the byte moved
 -- next stands in that rest, since its place is not below i.
 use Prim.Native.Nat.{ℕ, _+_, _-_, _≤_}
 use mathlib.Core.Path.{_≡_, refl, ap}
@@ -7,8 +7,8 @@ use native.Mathlib.Omega.{arith}
 use lib.ListN.{length, getD, take, drop, length-set, length-drop}
 use lib.Seq.{length-take-le, getD-append-add, getD-drop}
 use Rattle.laws.proofs.Copying.{copied-more}
-use Rattle.lines.proofs.keep.Statement.{statement}
-use Rattle.lines.proofs.keep.Tie as tie
+use Rattle.blocks.proofs.keep.Statement.{statement}
+use Rattle.blocks.proofs.keep.Tie as tie
 
 abbrev Inv-loop : tie.InvT-loop
 Inv-loop bytes₀ from count i₀ bytes i = (i ≤ count) × (length bytes ≡ length bytes₀) × (bytes ≡ take i (drop from bytes₀) ++ drop i bytes₀)
@@ -26,21 +26,6 @@ next bytes from i h =
 loop-holds : tie.Need-loop-holds Inv-loop μ-loop
 loop-holds c = (omega arith, refl, refl)
 
-add-bytes : tie.Need-add-bytes Inv-loop μ-loop
-add-bytes c = omega arith
-
-slice-read-bytes : tie.Need-slice-read-bytes Inv-loop μ-loop
-slice-read-bytes c = omega arith
-
-slice-write-bytes : tie.Need-slice-write-bytes Inv-loop μ-loop
-slice-write-bytes c = omega arith
-
-add-i : tie.Need-add-i Inv-loop μ-loop
-add-i c = omega arith
-
-loop-less : tie.Need-loop-less Inv-loop μ-loop
-loop-less c = omega arith
-
 loop-again : tie.Need-loop-again Inv-loop μ-loop
 loop-again c =
     let bytes₀ = c .before .before .before .args .bytes .now in
@@ -50,9 +35,6 @@ loop-again c =
       simp length-set (omega arith),
       rw (c .before .before .loop .inv .2) (rw (next bytes₀ from i (omega arith)) (copied-more (drop from bytes₀) bytes₀ i 0 (simp length-drop (omega arith)) (omega arith))),
     )
-
-same-length : tie.Need-same-length Inv-loop μ-loop
-same-length c = omega arith
 
 returns : tie.Need-returns Inv-loop μ-loop
 returns c =
@@ -66,11 +48,11 @@ keep-spec =
     Inv-loop
     μ-loop
     loop-holds
-    add-bytes
-    slice-read-bytes
-    slice-write-bytes
-    add-i
-    loop-less
+    (λ c. omega arith)
+    (λ c. omega arith)
+    (λ c. omega arith)
+    (λ c. omega arith)
+    (λ c. omega arith)
     loop-again
-    same-length
+    (λ c. omega arith)
     returns)
