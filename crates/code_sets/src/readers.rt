@@ -126,7 +126,7 @@ fn shifted_in(set: Set, values: &[u8], i: usize, text: &mut [u8], n: usize) -> R
     put_byte(sets::byte_in(sets::other_of(set), value), i + 1, text, n)
 }
 
-// RunPuts a byte, if it is one of the 82, and goes on at a place of the values.
+// Puts a byte, if it is one of the 82, and goes on at a place of the values.
 fn put_byte(byte: u8, next: usize, text: &mut [u8], n: usize) -> Run
     requires { ⌜ n ≤ 48 ⌝ }
     ensures { λ r. ⌜ RunPuts (isOf82 byte) (byte ∷ []) next n (now (text .entry)) r (now (text .exit)) ⌝ }
