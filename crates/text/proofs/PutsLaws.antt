@@ -13,6 +13,10 @@ use Rattle.text.specs.Puts.{Puts}
 pub puts-none : (before : List ℕ) → Puts [] before 0 before
 puts-none before = record { count = refl; lent = refl }
 
+-- text that comes to the same
+pub puts-same : (xs ys before : List ℕ) (r : ℕ) (after : List ℕ) → xs ≡ ys → Puts ys before r after → Puts xs before r after
+puts-same xs ys before r after e p = rw e p
+
 -- one byte more
 pub puts-more : (bytes before : List ℕ) (r : ℕ) (after : List ℕ) (b : ℕ) → r < length before → Puts bytes before r after → Puts (bytes ++ (b ∷ [])) before (r + 1) (set after r b)
 puts-more bytes before r after b h p =

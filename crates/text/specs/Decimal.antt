@@ -19,6 +19,13 @@ decimalIn (suc steps) n =
 unfoldable pub decimalOf : ℕ → List ℕ
 decimalOf n = decimalIn (suc n) n
 
--- two numbers, one space apart
+-- two numbers with a byte between them, and with a space
+abbrev pub apartBy : ℕ → ℕ → ℕ → List ℕ
+apartBy byte first second = decimalOf first ++ (byte ∷ []) ++ decimalOf second
+
 abbrev pub apart : ℕ → ℕ → List ℕ
-apart first second = decimalOf first ++ (32 ∷ []) ++ decimalOf second
+apart first second = apartBy 32 first second
+
+-- what a line says of a record, after a space: three numbers with colons between them
+abbrev pub recordText : ℕ → ℕ → ℕ → List ℕ
+recordText identifier begin size = (32 ∷ []) ++ apartBy 58 identifier begin ++ (58 ∷ []) ++ decimalOf size

@@ -1,16 +1,19 @@
-// Text: numbers as decimal digits, widths as one digit each, and messages as they are typed.
+// Text, as it is typed and printed: numbers, widths and messages.
 mod typed;
 mod widths;
 
 pub use typed::message_in;
+pub use typed::put_fitting;
 pub use typed::put_message;
+pub use widths::Widths;
 pub use widths::put_widths;
+pub use widths::widths_in;
 ghost use mathlib.Core.Path.{_≡_};
-ghost use Prim.Native.Nat.{_≤_};
+ghost use Prim.Native.Nat.{_≤_, min};
 ghost use lib.ListN.{length};
 ghost use Rattle.text.specs.Puts.{Puts};
-ghost use Rattle.text.specs.Decimal.{lastOf, decimalOf, apart};
-ghost use Rattle.text.specs.Numeral.{numberIn};
+ghost use Rattle.text.specs.Decimal.{lastOf, decimalOf, apartBy, apart, recordText};
+ghost use Rattle.text.specs.Numeral.{numberIn, cappedIn};
 
 // What a numeral is read as.
 pub enum Number {
@@ -33,8 +36,30 @@ pub fn put_pair(first: usize, second: usize, out: &mut [u8]) -> usize
     ensures { λ r. ⌜ Puts (apart first second) (now (out .entry)) r (now (out .exit)) ⌝ }
     ensures { λ r. ⌜ r ≤ 41 ⌝ }
 {
+    put_apart(first, b' ', second, out)
+}
+
+// Writes a space and three numbers with colons between them, and answers how many bytes they are: 63 at most.
+pub fn put_record(identifier: usize, begin: usize, size: usize, out: &mut [u8]) -> usize
+    requires { ⌜ 63 ≤ length (now out) ⌝ }
+    ensures { λ r. ⌜ Puts (recordText identifier begin size) (now (out .entry)) r (now (out .exit)) ⌝ }
+    ensures { λ r. ⌜ r ≤ 63 ⌝ }
+{
+    out[0] = b' ';
+    let at = 1 + put_apart(identifier, b':', begin, &mut out[1..]);
+    out[at] = b':';
+    let from = at + 1;
+    from + put_number(size, &mut out[from..])
+}
+
+// Writes two numbers with a byte between them.
+fn put_apart(first: usize, byte: u8, second: usize, out: &mut [u8]) -> usize
+    requires { ⌜ 41 ≤ length (now out) ⌝ }
+    ensures { λ r. ⌜ Puts (apartBy byte first second) (now (out .entry)) r (now (out .exit)) ⌝ }
+    ensures { λ r. ⌜ r ≤ 41 ⌝ }
+{
     let at = put_number(first, out);
-    out[at] = b' ';
+    out[at] = byte;
     let from = at + 1;
     from + put_number(second, &mut out[from..])
 }
@@ -43,6 +68,21 @@ pub fn put_pair(first: usize, second: usize, out: &mut [u8]) -> usize
 pub fn number_in(bytes: &[u8], most: usize) -> Number
     requires { ⌜ most ≤ 9999 ⌝ }
     ensures { λ r. ⌜ r ≡ numberIn (now (bytes .entry)) most ⌝ }
+{
+    let number = capped_in(bytes, most + 1);
+    let Number::Is(value) = number else {
+        return number;
+    };
+    if most < value {
+        return Number::Malformed;
+    }
+    number
+}
+
+// The number that a decimal numeral says, or `cap` where it says a larger one.
+pub fn capped_in(bytes: &[u8], cap: usize) -> Number
+    requires { ⌜ cap ≤ 10000 ⌝ }
+    ensures { λ r. ⌜ r ≡ cappedIn (now (bytes .entry)) cap ⌝ }
 {
     if bytes.len() < 1 {
         return Number::Malformed;
@@ -53,10 +93,7 @@ pub fn number_in(bytes: &[u8], most: usize) -> Number
     let mut value = 0;
     let mut i = 0;
     while i < bytes.len() {
-        value = value * 10 + digits::value_of(bytes[i]);
-        if most < value {
-            return Number::Malformed;
-        }
+        value = lesser(value * 10 + digits::value_of(bytes[i]), cap);
         i += 1;
     }
     Number::Is(value)
@@ -81,4 +118,10 @@ fn last_of(n: usize) -> u8
     ensures { λ r. ⌜ r ≡ lastOf n ⌝ }
 {
     b'0' + (n % 10) as u8
+}
+
+fn lesser(a: usize, b: usize) -> usize
+    ensures { λ r. ⌜ r ≡ min a b ⌝ }
+{
+    if a < b { a } else { b }
 }

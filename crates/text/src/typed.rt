@@ -1,10 +1,11 @@
-// Messages as they are typed.
+// Messages as they are typed, and bytes as they are.
 ghost use mathlib.Core.Path.{_≡_};
 ghost use mathlib.Core.List.{map};
 ghost use Prim.Native.Nat.{min};
 ghost use lib.ListN.{length, take};
 ghost use Rattle.text.specs.Puts.{Puts};
 ghost use Rattle.text.specs.Typed.{replacing, messageOf, typedOf};
+use crate::lesser;
 
 // Puts the message that typed bytes stand for at the front of `message`, as far as it fits, and answers the count of bytes put.
 pub fn message_in(typed: &[u8], message: &mut [u8]) -> usize
@@ -20,6 +21,14 @@ pub fn put_message(message: &[u8], out: &mut [u8]) -> usize
     ensures { λ r. ⌜ r ≡ min (length (now (out .entry))) (length (now (message .entry))) ⌝ }
 {
     put_replacing(29, b'^', message, out)
+}
+
+// Writes bytes as they are, as far as they fit, and answers the count of bytes written.
+pub fn put_fitting(source: &[u8], out: &mut [u8]) -> usize
+    ensures { λ r. ⌜ Puts (take (length (now (out .entry))) (now (source .entry))) (now (out .entry)) r (now (out .exit)) ⌝ }
+{
+    let count = lesser(source.len(), out.len());
+    bytes::copy(&source[..count], out)
 }
 
 fn put_replacing(old: u8, new: u8, bytes: &[u8], out: &mut [u8]) -> usize

@@ -1,11 +1,11 @@
--- `text::put_pair` meets its contract: the first number and the space stand at the front, and the second number after them.
+-- `text::put_apart` meets its contract: the first number and the byte stand at the front, and the second number after them.
 use mathlib.Core.Path.{_∙_}
 use native.Mathlib.Omega.{arith}
 use lib.ListN.{length-set, length-drop, length-take}
 use borrow.Author.Needs.{needs}
 use Rattle.text.proofs.PutsLaws.{puts-more, puts-then}
-use Rattle.text.proofs.put_pair.Statement.{statement}
-use Rattle.text.proofs.put_pair.Tie as tie
+use Rattle.text.proofs.put_apart.Statement.{statement}
+use Rattle.text.proofs.put_apart.Tie as tie
 
 put-number-requires-2 : tie.Need-put-number-requires-2
 put-number-requires-2 c κs = simp (length-take, length-drop, length-set) (omega arith)
@@ -18,10 +18,10 @@ same-length c =
 returns : tie.Need-returns
 returns c =
     let first = c .before .before .before .before .before .before .put-number in
-    (puts-then _ _ _ _ _ _ _ (puts-more _ _ _ _ 32 (omega arith) (first .ensures .0)) (c .before .before .put-number2 .ensures .0), omega arith)
+    (puts-then _ _ _ _ _ _ _ (puts-more _ _ _ _ _ (omega arith) (first .ensures .0)) (c .before .before .put-number2 .ensures .0), omega arith)
 
-pub put-pair-spec : {M : Type 1} → statement M
-put-pair-spec =
+pub put-apart-spec : {M : Type 1} → statement M
+put-apart-spec =
     tie.close
     (tie.spec
     (λ c κs. search needs)
