@@ -6,6 +6,7 @@ ghost use mathlib.Core.List.{_++_};
 ghost use Prim.Native.Nat.{_+_, _≤_, _<_, min};
 ghost use lib.ListN.{length, take, drop};
 ghost use Rattle.blocks.specs.Blocks.{filled, Holds};
+use libc::STDERR_FILENO;
 use libc::STDIN_FILENO;
 use libc::STDOUT_FILENO;
 
@@ -37,53 +38,59 @@ pub fn next(input: &mut [u8], block: Block, start: usize, most: usize) -> Block
     read_after(held, &mut input[held..], block.left - 1)
 }
 
-// Where an answer of at most `most` bytes goes: after the `put` bytes of answers that wait in `output` if it fits there for certain, else
-// at the front, once they are written out.
-pub fn make_room(output: &[u8], put: usize, most: usize) -> usize
-    requires { ⌜ (put ≤ length (now output)) × (most ≤ length (now output)) ⌝ }
-    ensures { λ r. ⌜ r + most ≤ length (now (output .entry)) ⌝ }
+// Where no more is to be taken.
+pub fn none() -> Block
+    ensures { λ r. ⌜ (filled r ≡ 0) × (r .left ≡ 0) ⌝ }
 {
-    if most <= output.len() - put {
-        return put;
+    without_more(0)
+}
+
+// Writes answers out, and tells whether that was done. Where it can't be, standard error says so.
+pub fn write_out(answers: &[u8]) -> bool {
+    if io::write_all(STDOUT_FILENO, answers) {
+        return true;
     }
-    write_out(&output[0..put]);
-    0
+    io::write_all(STDERR_FILENO, b"error: the output can't be written\n");
+    false
 }
 
-pub fn write_out(answers: &[u8]) {
-    io::write_all(STDOUT_FILENO, answers);
-}
-
-// Reads after the bytes held, unless no block is left. Where the input ends, or reading fails, bytes that are held are a line too: they are
-// the last block, with the byte 10 that ends them.
+// Reads after the bytes held, unless no block is left. Where the input ends, bytes that are held are a line too: they are the last block, with
+// the byte 10 that ends them. Where reading fails they may be a part of one, and there is no block.
 fn read_after(held: usize, space: &mut [u8], left: u64) -> Block
     requires { ⌜ 0 < length (now space) ⌝ }
     ensures { λ r. ⌜ (r .held ≡ held) × (r .more ≤ length (now (space .entry))) × (r .left ≤ left) ⌝ }
 {
     if left == 0 {
-        return Block {
-            held,
-            more: 0,
-            left,
-        };
+        return without_more(held);
     }
     let got = libc::read(STDIN_FILENO, space);
+    if got < 0 {
+        io::write_all(STDERR_FILENO, b"error: the input can't be read\n");
+        return without_more(held);
+    }
     let more = io::count(got, space);
     if 0 < more {
         return Block { held, more, left };
     }
     if held == 0 {
-        return Block {
-            held,
-            more,
-            left: 0,
-        };
+        return without_more(held);
     }
     space[0] = b'\n';
     Block {
         held,
         more: 1,
         left: 1,
+    }
+}
+
+// No block, after so many bytes held.
+fn without_more(held: usize) -> Block
+    ensures { λ r. ⌜ (r .held ≡ held) × (r .more ≡ 0) × (r .left ≡ 0) ⌝ }
+{
+    Block {
+        held,
+        more: 0,
+        left: 0,
     }
 }
 
