@@ -55,6 +55,14 @@ spelling-of x e =
     let d = both-hold (eqb (firstNot isDigit (spelled x)) (length (spelled x))) (eqb (digitsAfter (pairAt (spelled x) 0)) (length (spelled x))) (c .0) in
     record { all-digits = eqb-true _ _ (d .0); decided = eqb-true _ _ (d .1); two = leb-true _ _ (c .1); four = leb-true _ _ (b .1); small = leb-true _ _ (a .1) }
 
+-- so a number of five digits or more has no kind
+pub no-kind-of-large : (n : ℕ) → 10000 ≤ n → kindOf n ≡ none
+no-kind-of-large n h = go (kindOf n) refl
+  where
+    go : (o : Option Kind) → kindOf n ≡ o → o ≡ none
+    go none p = refl
+    go (some kind) p = absurd (omega (arith, spelling-of n (listed-if-kind n kind p) .small))
+
 -- what is known of bytes that begin with a listed identifier
 pub record Begun (bytes : List ℕ) (x : ℕ) : Type 0 where
   pub spelling : Spelling x

@@ -1,8 +1,9 @@
 -- Theorem 4 of the design for splitting: the records are exactly the element strings of the message, and ten always suffice. A record stands
 -- for the string that it was made of, so all of it carries over from the strings of the test.
-use Prim.Native.Nat.{ℕ, _≤_}
+use Prim.Native.Nat.{ℕ, _≤_, min}
 use mathlib.Core.Path.{_≡_, refl, sym, ap, _∙_, subst}
 use mathlib.Core.List.{List, [], _∷_, map}
+use native.Mathlib.Decide.{decLe}
 use native.Mathlib.Omega.{arith}
 use lib.ListN.{length, length-map}
 use Rattle.refusal.specs.declared.Refusal.{Refusal}
@@ -46,3 +47,14 @@ refused-by-test message room f enough e = go (tested message) refl
 
 pub ten-records-suffice : (message : List ℕ) (room : ℕ) → 10 ≤ room → splits message room ≡ refused Room → ⊥
 ten-records-suffice message room enough e = tested-has-room message (refused-by-test message room Room enough e)
+
+-- so twelve places are as good as any more
+pub splits-in-twelve : (message : List ℕ) (room : ℕ) → splits message (min room 12) ≡ splits message room
+splits-in-twelve message room = go (decLe room 12) (tested message) refl
+  where
+    go : Dec (room ≤ 12) → (o : Outcome (List Element)) → tested message ≡ o → splits message (min room 12) ≡ splits message room
+    go (yes few) o is = ap (splits message) (omega arith)
+    go (no many) (refused f) is = splits-refused message (min room 12) f is ∙ sym (splits-refused message room f is)
+    go (no many) (made strings) is =
+        let ten = ten-strings message strings is in
+        splits-enough message (min room 12) strings is (omega arith) ∙ sym (splits-enough message room strings is (omega arith))

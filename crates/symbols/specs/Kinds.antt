@@ -7,9 +7,9 @@ use lib.ListN.{length, getD}
 use lib.Dec.{eqb}
 use Rattle.refusal.specs.declared.Refusal.the-variants.{Count}
 use Rattle.refusal.specs.Outcome.{Outcome, made, refused, _>>_, must}
-use Rattle.ean13.specs.Ean13.{reads as reads13}
-use Rattle.ean8.specs.Ean8.{reads as reads8}
-use Rattle.itf14.specs.Itf14.{reads as reads14}
+use Rattle.ean13.specs.Ean13.{reads as reads13, writes as writes13}
+use Rattle.ean8.specs.Ean8.{reads as reads8, writes as writes8}
+use Rattle.itf14.specs.Itf14.{reads as reads14, writes as writes14}
 use Rattle.gs1_128.specs.Symbol.{permitted}
 use Rattle.gs1_128.specs.Rules as Gs1
 use Rattle.symbols.specs.declared.Kind.{Kind}
@@ -41,6 +41,13 @@ readsAs Ean13 = reads13
 readsAs Ean8 = reads8
 readsAs Itf14 = reads14
 readsAs Gs1128 = Gs1.reads
+
+-- and of its writer
+unfoldable pub writesAs : Kind → List ℕ → ℕ → Outcome (List ℕ)
+writesAs Ean13 = writes13
+writesAs Ean8 = writes8
+writesAs Itf14 = writes14
+writesAs Gs1128 = Gs1.writes
 
 -- the answer of the call that names the kind
 abbrev pub namedOf : Outcome Kind → Named

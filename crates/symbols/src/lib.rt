@@ -2,7 +2,7 @@
 ghost use mathlib.Core.Path.{_≡_};
 ghost use lib.ListN.{length};
 ghost use Rattle.refusal.specs.Fills.{Fills};
-ghost use Rattle.symbols.specs.Kinds.{kindOf, readsAs, namedOf};
+ghost use Rattle.symbols.specs.Kinds.{kindOf, readsAs, writesAs, namedOf};
 ghost use Rattle.symbols.specs.Readings.{reads, FillsNamed};
 use ean8::Ean8;
 use ean13::Ean13;
@@ -78,5 +78,17 @@ pub fn read_as(kind: Kind, widths: &[u8], bytes: &mut [u8]) -> Answer
         Kind::Ean8 => Ean8::read(widths, bytes),
         Kind::Itf14 => Itf14::read(widths, bytes),
         Kind::Gs1128 => Gs1128::read(widths, bytes),
+    }
+}
+
+// Draws a symbol of a named kind.
+pub fn write_as(kind: Kind, content: &[u8], widths: &mut [u8]) -> Answer
+    ensures { λ r. ⌜ Fills (writesAs kind (now (content .entry)) (length (now (widths .entry)))) (now (widths .entry)) r (now (widths .exit)) ⌝ }
+{
+    match kind {
+        Kind::Ean13 => Ean13::write(content, widths),
+        Kind::Ean8 => Ean8::write(content, widths),
+        Kind::Itf14 => Itf14::write(content, widths),
+        Kind::Gs1128 => Gs1128::write(content, widths),
     }
 }

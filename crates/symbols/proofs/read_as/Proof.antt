@@ -1,35 +1,26 @@
 -- `symbols::read_as` meets its promise: the rule of a kind is that of the kind's own reader.
-use Prim.Native.Nat.{ℕ}
-use mathlib.Core.Path.{_≡_, ap}
-use mathlib.Core.List.{List}
 use borrow.Author.Needs.{needs}
-use Rattle.refusal.specs.declared.Answer.{Answer}
-use Rattle.refusal.specs.Fills.{Fills}
-use Rattle.refusal.proofs.FillsLaws.{fills-same}
-use Rattle.symbols.specs.declared.Kind.{Kind}
 use Rattle.symbols.specs.declared.Kind.the-variants.{Ean13, Ean8, Itf14, Gs1128}
 use Rattle.symbols.specs.Kinds.{readsAs}
+use Rattle.symbols.proofs.ByKind.{fills-for-kind}
 use Rattle.symbols.proofs.read_as.Statement.{statement}
 use Rattle.symbols.proofs.read_as.Tie as tie
 
-for-kind : (kind k : Kind) (widths : List ℕ) (room : ℕ) (before : List ℕ) (r : Answer) (after : List ℕ) → kind ≡ k → Fills (readsAs k widths room) before r after → Fills (readsAs kind widths room) before r after
-for-kind kind k widths room before r after is = fills-same _ _ before r after (ap (λ (which : Kind). readsAs which widths room) is)
-
 returns : tie.Need-returns
 unfolding readsAs
-returns c = for-kind _ Ean13 _ _ _ _ _ (c .before .before .before .before .enum-told .given .1) (c .before .before .read .ensures)
+returns c = fills-for-kind readsAs _ Ean13 _ _ _ _ _ (c .before .before .before .before .enum-told .given .1) (c .before .before .read .ensures)
 
 returns-2 : tie.Need-returns-2
 unfolding readsAs
-returns-2 c = for-kind _ Ean8 _ _ _ _ _ (c .before .before .before .before .enum-told2 .given .1) (c .before .before .read2 .ensures)
+returns-2 c = fills-for-kind readsAs _ Ean8 _ _ _ _ _ (c .before .before .before .before .enum-told2 .given .1) (c .before .before .read2 .ensures)
 
 returns-3 : tie.Need-returns-3
 unfolding readsAs
-returns-3 c = for-kind _ Itf14 _ _ _ _ _ (c .before .before .before .before .enum-told3 .given .1) (c .before .before .read3 .ensures)
+returns-3 c = fills-for-kind readsAs _ Itf14 _ _ _ _ _ (c .before .before .before .before .enum-told3 .given .1) (c .before .before .read3 .ensures)
 
 returns-4 : tie.Need-returns-4
 unfolding readsAs
-returns-4 c = for-kind _ Gs1128 _ _ _ _ _ (c .before .before .before .before .enum-told4 .given .1) (c .before .before .read4 .ensures)
+returns-4 c = fills-for-kind readsAs _ Gs1128 _ _ _ _ _ (c .before .before .before .before .enum-told4 .given .1) (c .before .before .read4 .ensures)
 
 pub read-as-spec : {M : Type 1} → statement M
 read-as-spec =
