@@ -2,7 +2,7 @@
 -- first 49 bytes suffice; and every refusal is the message's own, never 12.
 use Prim.Native.Nat.{ℕ, _≤_, _<_}
 use mathlib.Core.Path.{_≡_, sym, ap, _∙_}
-use mathlib.Core.List.{List, [], _∷_, _++_}
+use mathlib.Core.List.{List, _++_}
 use native.Mathlib.Decide.{decLe}
 use native.Mathlib.Omega.{arith}
 use lib.ListN.{length, take, length-append, length-map}
@@ -12,16 +12,17 @@ use Rattle.refusal.specs.declared.Refusal.the-variants.{Room}
 use Rattle.refusal.specs.Outcome.{refused}
 use Rattle.elements.specs.Strings.{tested}
 use Rattle.elements.proofs.TestRefusals.{tested-has-room}
-use Rattle.text.specs.Decimal.{apart}
 use Rattle.text.specs.Typed.{messageOf}
 use Rattle.gs1_128.specs.Rules.{writes}
-use Rattle.bench.specs.Line.{answerLine, answers}
+use Rattle.answers.specs.declared.Form.the-variants.{Widths as AsWidths}
+use Rattle.answers.specs.Lines.{numbersLine, listLine}
+use Rattle.bench.specs.Line.{answers}
 use Rattle.bench.proofs.WrittenLaws.{written-over, write-refused-by-test}
 
 -- `1 0`
-pub long-line : (line : List ℕ) → 48 < length line → answers line ≡ apart 1 0 ++ (10 ∷ [])
+pub long-line : (line : List ℕ) → 48 < length line → answers line ≡ numbersLine 1 0
 unfolding answers
-long-line line h = ap answerLine (written-over (messageOf line) 619 (rw length-map h))
+long-line line h = ap (listLine AsWidths) (written-over (messageOf line) 619 (rw length-map h))
 
 -- what the program keeps of a line that hasn't ended, and the bytes that come after it
 pub held-as-whole : (begun rest : List ℕ) → answers (take 49 begun ++ rest) ≡ answers (begun ++ rest)

@@ -8,7 +8,6 @@ use native.Mathlib.Omega.{arith}
 use lib.ListN.{length, take}
 use lib.Seq.{take-all, length-take-le}
 use borrow.Author.Tests.{le-leb, lt-leb}
-use Rattle.laws.specs.Below.{Below}
 use Rattle.refusal.specs.declared.Refusal.{Refusal}
 use Rattle.refusal.specs.declared.Refusal.the-variants.{Count}
 use Rattle.refusal.specs.Outcome.{Outcome, made, refused}
@@ -16,11 +15,9 @@ use Rattle.refusal.proofs.OutcomeLaws.{made-not-refused}
 use Rattle.elements.specs.declared.Element.{Element}
 use Rattle.elements.specs.Strings.{tested}
 use Rattle.elements.proofs.Theorems.{strings-of-accepted}
-use Rattle.spelling.specs.Best.{bestSpelling}
 use Rattle.gs1_128.specs.Rules.{bestSymbol, writes}
-use Rattle.gs1_128.proofs.DrawnLaws.{symbol-below}
 use Rattle.gs1_128.proofs.WrittenLaws.{write-refused}
-use Rattle.gs1_128.proofs.ComesBack.{best-room, writes-best, written}
+use Rattle.gs1_128.proofs.ComesBack.{best-room, writes-best}
 
 -- a message that passes its test is drawn in any list of 313 places or more
 written-made : (message : List ℕ) (strings : List Element) (room : ℕ) → tested message ≡ made strings → 313 ≤ room → writes message room ≡ made (bestSymbol message)
@@ -42,13 +39,6 @@ write-refused-by-test message room f h e = go (tested message) refl
     go : (o : Outcome (List Element)) → tested message ≡ o → o ≡ refused f
     go (made strings) t = absurd (made-not-refused _ f (sym (written-made message strings room t h) ∙ e))
     go (refused g) t = let same = sym (write-refused message room g t) ∙ e in cc
-
--- what is written is at most 313 widths of one digit each
-pub widths-of-written : (message : List ℕ) (room : ℕ) (widths : List ℕ) → writes message room ≡ made widths → (length widths ≤ 313) × Below 10 widths
-widths-of-written message room widths e =
-    let w = written message widths room e in
-    rw (w .1)
-    (best-room message _ (w .0 .right), symbol-below (bestSpelling message))
 
 -- more than 48 bytes are refused for their count
 pub written-over : (message : List ℕ) (room : ℕ) → 48 < length message → writes message room ≡ refused Count

@@ -1,6 +1,6 @@
 -- `bench::answer_block` meets its contract: all before the next line is lines that ended; `output` has room for an answer, so where nothing
--- was put no line ends any more, and where something was, the next line begins later.
-use Prim.Native.Nat.{_+_, _-_, _*_, _≤_, min}
+-- was put no line ends any more, and where something was, the next line begins later. Where a write fails, nothing is said of what follows.
+use Prim.Native.Nat.{ℕ, _+_, _-_, _*_, _≤_, min}
 use mathlib.Core.Path.{_≡_, refl, _∙_}
 use native.Mathlib.Omega.{arith}
 use lib.ListN.{length, drop}
@@ -41,20 +41,25 @@ loop-holds c =
       none-ends (length (args .output .now)) (done .result .put) (omega arith) (done .ensures .1 .1),
     )
 
--- a turn, where further lines are answered
-module _ (c : tie.After-answer-lines2 Inv-loop μ-loop) where
+-- a turn, where answers were to be written
+module _ (c : tie.After-write-out Inv-loop μ-loop) where
   abbrev turn : tie.At-loop Inv-loop μ-loop
-  turn = c .before .before .before .before .before .before .before
+  turn = c .before .before .before .before .before
+
+-- and where they were, and further lines are answered
+module _ (c : tie.After-answer-lines2 Inv-loop μ-loop) where
+  abbrev onward : tie.At-loop Inv-loop μ-loop
+  onward = turn (c .before .before .before)
 
 loop-less : tie.Need-loop-less Inv-loop μ-loop
 loop-less c =
-    let loop = turn (c .before .before) .loop in
+    let loop = onward (c .before .before) .loop in
     let done = c .before .before .answer-lines2 in
     omega (arith, answered-moves _ (loop .done .next) _ (done .result .next) (done .result .put) (done .last .1 .1 .0) (done .ensures .0) (omega arith) (omega arith))
 
 loop-again : tie.Need-loop-again Inv-loop μ-loop
 loop-again c =
-    let loop = turn (c .before .before) .loop in
+    let loop = onward (c .before .before) .loop in
     let done = c .before .before .answer-lines2 in (
       done .kept .1 .1 .0 ∙ loop .inv .0,
       loop .inv .1,
@@ -66,8 +71,13 @@ loop-again c =
 
 returns : tie.Need-returns Inv-loop μ-loop
 returns c =
+    let loop = turn (c .before) .loop in
+    (loop .inv .4, (omega arith, λ e. absurd (let z : _≡_ {A = ℕ} 0 1 = cc in omega arith)))
+
+returns-2 : tie.Need-returns-2 Inv-loop μ-loop
+returns-2 c =
     let loop = c .before .before .loop in
-    (loop .inv .4, (omega arith, loop .inv .5 (omega arith)))
+    (loop .inv .4, (omega arith, λ _. loop .inv .5 (omega arith)))
 
 pub answer-block-spec : {M : Type 1} → statement M
 answer-block-spec =
@@ -81,8 +91,10 @@ answer-block-spec =
     (λ c. omega arith)
     (λ c. omega arith)
     (λ c κs. tt)
+    (λ c. omega arith)
+    returns
     (λ c κs. omega arith)
     loop-less
     loop-again
     (λ c. omega arith)
-    returns)
+    returns-2)

@@ -1,26 +1,25 @@
--- `bench::line::put_symbol` meets its contract: what the writer filled is what its rule made, 313 widths of one digit at the most.
-use Prim.Native.Nat.{ℕ, _-_, _≤_}
-use mathlib.Core.Path.{_≡_, refl, sym, ap, _∙_}
+-- `bench::line::put_symbol` meets its contract: what the writer left is what its rule makes, widths of one digit each.
+use Prim.Native.Nat.{ℕ}
+use mathlib.Core.Path.{_≡_, sym, ap, _∙_}
 use mathlib.Core.List.{List}
-use native.Mathlib.Nat.{sub-zero}
 use native.Mathlib.Omega.{arith}
-use lib.ListN.{length, take}
+use lib.ListN.{length}
 use borrow.Author.Needs.{needs}
-use Rattle.refusal.specs.Outcome.{made}
-use Rattle.refusal.proofs.FillsLaws.{refused-of-answer}
-use Rattle.refusal.proofs.OwnLaws.{own-of-fills, own-front}
+use Rattle.refusal.specs.declared.Answer.{Answer}
+use Rattle.refusal.specs.Outcome.{Outcome}
+use Rattle.text.proofs.PutsLaws.{puts-same}
+use Rattle.answers.specs.declared.Form.the-variants.{Widths as AsWidths}
+use Rattle.answers.specs.Lines.{listLine}
+use Rattle.answers.proofs.LineLaws.{made-line, made-shows}
 use Rattle.gs1_128.specs.Rules.{writes}
-use Rattle.bench.proofs.WrittenLaws.{widths-of-written}
+use Rattle.gs1_128.proofs.ComesBack.{widths-below}
 use Rattle.bench.proofs.line.put_symbol.Statement.{statement}
 use Rattle.bench.proofs.line.put_symbol.Tie as tie
 
 -- where the writer has answered
-module _ (c : tie.After-slice-known3) where
-  abbrev written : tie.After-write
-  written = c .before .before
-
+module _ (c : tie.After-write) where
   abbrev lent : tie.Start
-  lent = written .before .before .before .before .before
+  lent = c .before .before .before .before .before
 
   abbrev message : List ℕ
   message = lent .args .message .now
@@ -29,58 +28,33 @@ module _ (c : tie.After-slice-known3) where
   before = lent .args .widths .now
 
   abbrev after : List ℕ
-  after = written .write .last .1 .0
+  after = c .write .last .1 .0
 
-  size : length before ≡ 313
-  size = omega arith
+  abbrev answer : Answer
+  answer = c .write .result
 
--- what was drawn
-module _ (c : tie.After-n) where
-  abbrev at : tie.After-slice-known3
-  at = c .before .before
+  abbrev rule : Outcome (List ℕ)
+  rule = writes message (length before)
 
-  abbrev n : ℕ
-  n = c .n .given .0 .0
-
-  front : (writes (message at) (length (before at)) ≡ made (take n (after at))) × (n ≤ length (after at))
-  front =
-      let write = written at .write in
-      let rule = writes (message at) (length (before at)) in
-      own-front rule (before at) (after at) (write .result) n (c .n .given .1) (own-of-fills rule rule (before at) (after at) (write .result) refl (write .ensures))
-
-  drawn : writes (message at) 313 ≡ made (take (n - 0) (after at))
-  drawn = rw sub-zero (ap (writes (message at)) (sym (size at)) ∙ front .0)
-
-part-put-made-end : tie.Need-part-put-made-end
-part-put-made-end c = omega (arith, front (c .before .before) .1)
-
--- where it is handed on
-module _ (c : tie.After-put-made-arg2) where
-  abbrev made-symbol : tie.After-n
-  made-symbol = c .before .before .before .before
+-- where what it left is handed on
+module _ (c : tie.After-put-made-arg3) where
+  abbrev written : tie.After-write
+  written = c .before .before .before .before .before
 
 put-made-requires : tie.Need-put-made-requires
 put-made-requires c κs =
-    let few = widths-of-written _ 313 _ (drawn (made-symbol c)) in
-    (few .1, (few .0, omega arith))
+    let at = written c in (
+      made-shows (rule at) (before at) (after at) AsWidths (answer at) (at .write .ensures) (λ widths made. widths-below (message at) widths (length (before at)) made),
+      omega (arith, at .write .kept .1 .0),
+    )
 
 returns : tie.Need-returns
-returns c = let put = c .before .before in rw (drawn (made-symbol (put .before))) (put .put-made .ensures)
-
--- what was refused
-module _ (c : tie.After-put-refusal) where
-  abbrev unmade : tie.After-refusal
-  unmade = c .before .before .before
-
-returns-2 : tie.Need-returns-2
-returns-2 c =
+returns c =
     let put = c .before .before in
-    let refusal = unmade put .refusal .given in
-    let at = unmade put .before .before in
-    let write = written at .write in
-    let rule = writes (message at) (length (before at)) in
-    let not-drawn = refused-of-answer rule (refusal .0 .0) (sym (refusal .1) ∙ write .ensures .answer) in
-    rw (← size at, not-drawn) (put .put-refusal .ensures)
+    let at = written (put .before) in
+    let size : length (before at) ≡ 313 = omega arith in
+    let room = ap (λ (n : ℕ). listLine AsWidths (writes (message at) n)) (sym size) in
+    puts-same _ _ _ _ _ (room ∙ made-line (rule at) (before at) (after at) AsWidths _ (answer at) (at .write .ensures)) (put .put-made .ensures)
 
 pub put-symbol-spec : {M : Type 1} → statement M
 put-symbol-spec =
@@ -88,15 +62,7 @@ put-symbol-spec =
     (tie.spec
     (λ c κs. search needs)
     (λ c. search needs)
-    (λ c. search needs)
-    (λ c. search needs)
-    part-put-made-end
     put-made-requires
     (λ c. search needs)
-    (λ c κs. search needs)
     (λ c. search needs)
-    (λ c. search needs)
-    returns
-    (λ c. search needs)
-    (λ c. search needs)
-    returns-2)
+    returns)
