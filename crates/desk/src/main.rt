@@ -1,15 +1,21 @@
 // The desk: each line of standard input is a call, and each gets one line of answer on standard output.
 //
-// It takes the input in blocks, cuts them into lines, has `calls` answer each line, and writes the answers out.
-ghost use Prim.Native.Nat.{_+_, _≤_, _<_};
+// It takes the input in blocks, has `calls` answer the lines that end in each, and writes the answers out.
+ghost use Prim.Native.Nat.{_≤_, _<_};
 ghost use lib.ListN.{length};
+ghost use Rattle.blocks.specs.Blocks.{filled};
+use blocks::Block;
 
-const LONGEST_LINE: usize = 4096;
+mod block;
 
 // So many bytes of a line that hasn't ended tell that it is too long, whatever it goes on with.
 const OVER: usize = 4097;
 
-const LONGEST_ANSWER: usize = 1024;
+// Where the first line begins that isn't answered yet, and whether the answers could be written.
+struct Passed {
+    start: usize,
+    written: bool,
+}
 
 fn main() {
     let mut input = io::large_buffer();
@@ -19,51 +25,46 @@ fn main() {
 
 fn serve(input: &mut [u8], output: &mut [u8])
     requires { ⌜ 4097 < length (now input) ⌝ }
-    requires { ⌜ 1024 ≤ length (now output) ⌝ }
 {
     let mut block = blocks::first(input);
     while 0 < block.left {
-        let held = block.held;
-        let end = held + block.more;
-        let start = answer_lines(&input[0..end], held, output);
-        block = blocks::next(input, block, start, OVER);
+        block = take_block(block, input, output);
     }
 }
 
-// Answers each line that ends in a block, and gives the place where the line after the last of them begins. The first `held` bytes are
-// known to have no byte 10.
-fn answer_lines(block: &[u8], held: usize, output: &mut [u8]) -> usize
-    requires { ⌜ held ≤ length (now block) ⌝ }
-    requires { ⌜ 1024 ≤ length (now output) ⌝ }
-    ensures { λ r. ⌜ r ≤ length (now (block .entry)) ⌝ }
+// Answers the lines that end in a block, and takes the next one, unless the answers can't be written.
+fn take_block(block: Block, input: &mut [u8], output: &mut [u8]) -> Block
+    requires { ⌜ (0 < block .left) × (filled block ≤ length (now input)) ⌝ }
+    requires { ⌜ 4097 < length (now input) ⌝ }
+    ensures { λ r. ⌜ (filled r ≤ length (now (input .entry))) × (r .left < block .left) ⌝ }
 {
-    let mut start = 0;
-    let mut put = 0;
-    let mut end = lines::line_end(block, held);
-    while end < block.len() {
-        put = put_answer(&block[start..end], output, put);
-        start = end + 1;
-        end = lines::line_end(block, start);
+    let end = block.held + block.more;
+    let passed = answer_block(&input[0..end], output);
+    if !passed.written {
+        return blocks::none();
     }
-    blocks::write_out(&output[0..put]);
-    start
+    blocks::next(input, block, passed.start, OVER)
 }
 
-// Puts a line's answer after the `put` bytes of answers that wait in `output`, and gives the count of bytes that then wait.
-fn put_answer(line: &[u8], output: &mut [u8], put: usize) -> usize
-    requires { ⌜ (put ≤ length (now output)) × (1024 ≤ length (now output)) ⌝ }
-    ensures { λ r. ⌜ r ≤ length (now (output .entry)) ⌝ }
+// Answers each line that ends in a block, with one write for as many as `output` holds, and gives the place where the line after the last
+// of them begins. It stops at a write that fails.
+fn answer_block(block: &[u8], output: &mut [u8]) -> Passed
+    ensures { λ r. ⌜ r .start ≤ length (now (block .entry)) ⌝ }
 {
-    let at = blocks::make_room(output, put, LONGEST_ANSWER);
-    at + answer_line(line, &mut output[at..])
-}
-
-fn answer_line(line: &[u8], output: &mut [u8]) -> usize
-    requires { ⌜ 1024 ≤ length (now output) ⌝ }
-    ensures { λ r. ⌜ r ≤ 1024 ⌝ }
-{
-    if line.len() <= LONGEST_LINE {
-        return calls::answer(line, output);
+    let mut done = block::answer_lines(block, 0, output);
+    while 0 < done.put {
+        let put = done.put;
+        if !blocks::write_out(&output[0..put]) {
+            return Passed {
+                start: done.next,
+                written: false,
+            };
+        }
+        let next = done.next;
+        done = block::answer_lines(block, next, output);
     }
-    calls::too_long(output)
+    Passed {
+        start: done.next,
+        written: true,
+    }
 }

@@ -9,7 +9,7 @@ use Rattle.desk.proofs.serve.Tie as tie
 
 abbrev Inv-loop : tie.InvT-loop
 Inv-loop input₀ output₀ block₀ input output block =
-    (filled block ≤ length input) × (4097 < length input) × (1024 ≤ length output) × (length input ≡ length input₀) × (length output ≡ length output₀)
+    (filled block ≤ length input) × (4097 < length input) × (length input ≡ length input₀) × (length output ≡ length output₀)
 
 abbrev μ-loop : tie.MeasureT-loop
 μ-loop input₀ output₀ block₀ input output block = block .left
@@ -22,11 +22,6 @@ serve-spec =
     μ-loop
     (λ c κs. omega arith)
     (λ c. omega arith)
-    (λ c. omega arith)
-    (λ c. omega arith)
-    (λ c. omega arith)
-    (λ c. omega arith)
-    (λ c κs. omega arith)
     (λ c κs. omega arith)
     (λ c. omega arith)
     (λ c. omega arith)
