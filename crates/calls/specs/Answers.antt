@@ -11,7 +11,7 @@ use Rattle.refusal.specs.declared.Answer.the-variants.{Refused}
 use Rattle.refusal.specs.Outcome.{Outcome, made, refused}
 use Rattle.refusal.specs.Fills.{answered, answerOf}
 use Rattle.text.specs.Decimal.{apart, recordText}
-use Rattle.text.specs.Typed.{messageOf, typedOf}
+use Rattle.text.specs.Typed.{messageOf}
 use Rattle.text.specs.Widths.{Said, widths, nothing, widthsIn}
 use Rattle.digits.specs.Check.{checkDigit}
 use Rattle.symbols.specs.declared.Kind.{Kind}
@@ -25,7 +25,7 @@ use Rattle.splitting.specs.Splitting.{splits}
 use Rattle.asking.specs.Asking.{asked, partOf}
 use Rattle.adding.specs.Adding.{adds}
 use Rattle.answers.specs.declared.Form.the-variants.{Widths as AsWidths, Bytes as AsBytes}
-use Rattle.answers.specs.Lines.{answerLine, listLine}
+use Rattle.answers.specs.Lines.{answerLine, countedLine, listLine}
 use Rattle.requests.specs.declared.Argument.the-variants.{Message, Data, Widths}
 use Rattle.requests.specs.declared.Fault.the-variants.{Missing, Malformed}
 use Rattle.requests.specs.declared.Leading.{Leading}
@@ -55,12 +55,9 @@ pub record NameAt (kind : Kind) (part : Part) : Type 0 where
   pub within : part .to ≤ 22
   pub names : take (part .to - part .from) (drop (part .from) kindNames) ≡ kindName kind
 
-abbrev pub countedAs : Kind → List ℕ → List ℕ
-countedAs kind list = apart 0 (length list) ++ kindName kind ++ typedOf list ++ (10 ∷ [])
-
 -- a reading that names its kind
 abbrev pub namedLine : Outcome (Kind × List ℕ) → List ℕ
-namedLine (made read) = countedAs (read .0) (read .1)
+namedLine (made read) = countedLine AsBytes (kindName (read .0)) (read .1)
 namedLine (refused f) = answerLine (Refused f)
 
 abbrev pub readLine : Which → List ℕ → ℕ → List ℕ

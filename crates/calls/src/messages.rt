@@ -14,7 +14,6 @@ use requests::Leading;
 use requests::faults::put_fault;
 
 pub fn ask(typed: &[u8], out: &mut [u8]) -> usize
-    requires { ⌜ length (now typed) ≤ 4096 ⌝ }
     requires { ⌜ 1024 ≤ length (now out) ⌝ }
     ensures { λ r. ⌜ Puts (askTyped (now (typed .entry))) (now (out .entry)) r (now (out .exit)) ⌝ }
 {
@@ -25,7 +24,6 @@ pub fn ask(typed: &[u8], out: &mut [u8]) -> usize
 }
 
 fn put_asked(message: &[u8], identifier: usize, out: &mut [u8]) -> usize
-    requires { ⌜ length (now message) ≤ 4096 ⌝ }
     requires { ⌜ 1024 ≤ length (now out) ⌝ }
     ensures { λ r. ⌜ Puts (askedLine (now (message .entry)) identifier) (now (out .entry)) r (now (out .exit)) ⌝ }
 {

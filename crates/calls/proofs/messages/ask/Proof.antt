@@ -3,7 +3,7 @@ use Prim.Native.Nat.{ℕ, _-_}
 use mathlib.Core.Path.{_≡_, sym, ap, subst, _∙_}
 use mathlib.Core.List.{List}
 use native.Mathlib.Omega.{arith}
-use lib.ListN.{length, take, drop, length-take, length-drop}
+use lib.ListN.{length, take, drop, length-drop}
 use lib.Seq.{take-all}
 use borrow.Author.Needs.{needs}
 use Rattle.text.proofs.PutsLaws.{puts-same}
@@ -36,9 +36,6 @@ module _ (c : tie.After-identifier) where
   line : askTyped typed ≡ askedBy typed found
   line = asked-alike typed (leadingOf typed Message) ∙ ap (askedBy typed) (sym (read .identifier-in .ensures .0) ∙ c .identifier .given .1)
 
-put-asked-requires : tie.Need-put-asked-requires
-put-asked-requires c κs = rw (length-take, length-drop) (omega arith)
-
 returns : tie.Need-returns
 returns c =
     let put = c .before .before in
@@ -62,7 +59,7 @@ ask-spec =
     (λ c. within (c .before))
     (λ c. within (c .before))
     (λ c. search needs)
-    put-asked-requires
+    (λ c κs. search needs)
     (λ c. search needs)
     (λ c κs. omega arith)
     (λ c. search needs)
