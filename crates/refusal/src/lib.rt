@@ -4,7 +4,7 @@ ghost use lib.ListN.{length};
 ghost use Rattle.refusal.specs.Numbers.{numberOf, placeOf};
 ghost use Rattle.refusal.specs.Fills.{Fills, laying};
 
-// One case for each number of document 01's table, in its order; a case that has a place holds it.
+// One case for each number, those of document 01's table and then those of document 02's requests; a case that has a place holds it.
 pub enum Refusal {
     Count,
     Character(usize),
@@ -19,6 +19,7 @@ pub enum Refusal {
     Repeated(usize),
     Room,
     Absent,
+    Condensed,
 }
 
 // The count written, or the number asked for; or why there is none.
@@ -45,6 +46,7 @@ impl Refusal {
             Refusal::Repeated(_) => 11,
             Refusal::Room => 12,
             Refusal::Absent => 13,
+            Refusal::Condensed => 14,
         }
     }
 
@@ -65,6 +67,7 @@ impl Refusal {
             Refusal::Repeated(place) => place,
             Refusal::Room => 0,
             Refusal::Absent => 0,
+            Refusal::Condensed => 0,
         }
     }
 }
