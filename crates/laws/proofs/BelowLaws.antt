@@ -3,11 +3,12 @@ use Prim.Native.Nat.{ℕ, zero, suc, _+_, _≤_, _<_, min, suc-le-suc}
 use mathlib.Core.Path.{_≡_}
 use mathlib.Core.List.{List, [], _∷_, _++_}
 use native.Mathlib.Nat.{le-of-suc-le-suc, not-suc-le-zero}
-use native.Mathlib.Decide.{ℕ-discrete}
+use native.Mathlib.Decide.{decLt, ℕ-discrete}
 use native.Mathlib.Omega.{arith}
-use lib.ListN.{length, getD, set, take, drop, length-take, length-drop, length-set}
+use lib.ListN.{length, getD, set, take, drop, length-take, length-drop, length-set, List·getD-eq-default}
 use lib.Seq.{getD-take, getD-drop, getD-set-same, getD-set-other}
 use Rattle.laws.specs.Below.{Below}
+use Rattle.laws.specs.Each.{Each}
 use Rattle.laws.specs.Exchanged.{exchanged}
 use Rattle.laws.proofs.ExchangedLaws.{exchanged-sets}
 
@@ -24,6 +25,18 @@ module _ (bound : ℕ) where
 
   pub below-rest : (x : ℕ) (xs : List ℕ) → Below bound (x ∷ xs) → Below bound xs
   below-rest x xs below i h = below (suc i) (suc-le-suc h)
+
+  pub below-each : (xs : List ℕ) → Each (λ (x : ℕ). x < bound) xs → Below bound xs
+  below-each [] each = below-of-nil
+  below-each (x ∷ xs) each = below-more x xs (each .0) (below-each xs (each .1))
+
+  -- beyond the last element stands 0
+  pub below-anywhere : (xs : List ℕ) → 0 < bound → Below bound xs → (i : ℕ) → getD xs i 0 < bound
+  below-anywhere xs some below i = go (decLt i (length xs))
+    where
+      go : Dec (i < length xs) → getD xs i 0 < bound
+      go (yes within) = below i within
+      go (no beyond) = rw (List·getD-eq-default xs 0 {n = i} (omega arith)) some
 
   pub below-take : (n : ℕ) (xs : List ℕ) → Below bound xs → Below bound (take n xs)
   below-take n xs below i h =

@@ -30,7 +30,7 @@ same-refl (x ∷ xs) = rw (eq-eqb x x refl) (same-refl xs)
 pub same-false : (xs ys : List ℕ) → same xs ys ≡ false → xs ≡ ys → ⊥
 same-false xs ys e p = let t : same xs ys ≡ true = ap (same xs) (sym p) ∙ same-refl xs in let z : _≡_ {A = ℕ} 0 1 = cc in omega arith
 
-differs : (xs ys : List ℕ) → (xs ≡ ys → ⊥) → same xs ys ≡ false
+pub differs : (xs ys : List ℕ) → (xs ≡ ys → ⊥) → same xs ys ≡ false
 differs xs ys h = go (same xs ys) refl
   where
     go : (b : Bool) → same xs ys ≡ b → b ≡ false
