@@ -1,10 +1,8 @@
 -- What the functions' proofs rest on, and the theorems.
 --
---   ParityLaws   the ten parity rows, by computed tests
 --   LeftHalf     the left half of thirteen digits
 --   SymbolLaws   the scan and the symbol undo one another
 --   Theorems     the same of the calls' rules, and what follows
-pub mod ParityLaws
 pub mod LeftHalf
 pub mod SymbolLaws
 pub mod Theorems

@@ -15,20 +15,20 @@ use Rattle.refusal.specs.declared.Refusal.the-variants.{Pattern}
 use Rattle.refusal.specs.Outcome.{made}
 use Rattle.refusal.proofs.OutcomeLaws.{made-same, must-made, bind-made}
 use Rattle.patterns.specs.Patterns.{valueIn}
-use Rattle.patterns.proofs.PatternLaws.{pattern-at, value-at}
+use Rattle.parity.specs.declared.rows.Rows.the-variants.{FirstDigit}
+use Rattle.parity.specs.Letters.{inSets}
+use Rattle.parity.specs.Rows.{byFirstDigit}
+use Rattle.parity.proofs.LetterLaws.{digits-of-below, remainders-below}
+use Rattle.parity.proofs.RowLaws.{values-again}
 use Rattle.ean_upc.specs.declared.tables.Sets.the-variants.{AOrB}
-use Rattle.ean_upc.specs.Letters.{inSets}
 use Rattle.ean_upc.specs.Halves.{halvesDrawn, halvesIn}
-use Rattle.ean_upc.proofs.LetterLaws.{letters-again, digits-again, values-again, digits-of-below, remainders-below}
 use Rattle.ean_upc.proofs.HalvesLaws.{Halves, length-of-drawn, halves-of-drawn, drawn-of-halves, widths-below as halves-below}
-use Rattle.ean13.specs.Parity.{parityRows}
 use Rattle.ean13.specs.Ean13.{symbol, firstOf, scanned}
-use Rattle.ean13.proofs.ParityLaws.{distinct-rows}
-use Rattle.ean13.proofs.LeftHalf.{rowOf, leftDigits, same-counts, left-digits-below, six-values, values-below}
+use Rattle.ean13.proofs.LeftHalf as Left
 
 module _ (digits : List ℕ) (long : length digits ≡ 13) (below : Below 10 digits) where
   abbrev left : List ℕ
-  left = inSets (rowOf digits long below) (leftDigits digits long below)
+  left = Left.left digits long below
 
   abbrev right : List ℕ
   right = drop 7 digits
@@ -38,39 +38,36 @@ module _ (digits : List ℕ) (long : length digits ≡ 13) (below : Below 10 dig
 
   pub length-of-symbol : length (symbol digits) ≡ 59
   unfolding symbol
-  length-of-symbol = length-of-drawn AOrB 6 left right (six-values digits long below) right-long (values-below digits long below) (below-drop 10 7 digits below)
+  length-of-symbol = length-of-drawn AOrB 6 left right (Left.six-values digits long below) right-long (Left.values-below digits long below) (below-drop 10 7 digits below)
 
   halves : halvesIn AOrB 6 (symbol digits) ≡ made (left ++ right)
   unfolding symbol
-  halves = halves-of-drawn AOrB 6 left right (six-values digits long below) right-long (values-below digits long below) (below-drop 10 7 digits below)
+  halves = halves-of-drawn AOrB 6 left right (Left.six-values digits long below) right-long (Left.values-below digits long below) (below-drop 10 7 digits below)
 
   first-scanned : firstOf (left ++ right) ≡ getD digits 0 0
   first-scanned =
-      ap (λ (half : List ℕ). valueIn parityRows (map (λ v. v / 10) half)) (take-at left right 6 (six-values digits long below))
-      ∙ ap (valueIn parityRows) (letters-again (rowOf digits long below) (leftDigits digits long below) (same-counts digits long below) (left-digits-below digits long below))
-      ∙ value-at parityRows distinct-rows (getD digits 0 0) (below 0 (omega arith))
+      ap (λ (half : List ℕ). valueIn byFirstDigit (map (λ v. v / 10) half)) (take-at left right 6 (Left.six-values digits long below))
+      ∙ Left.first-again digits long below
 
   digits-scanned : getD digits 0 0 ∷ map (λ v. v % 10) (left ++ right) ≡ digits
   digits-scanned =
-      let ones = digits-again (rowOf digits long below) (leftDigits digits long below) (same-counts digits long below) (left-digits-below digits long below) in
-      ap (λ (rest : List ℕ). getD digits 0 0 ∷ rest) (map-append (λ v. v % 10) left right ∙ ap₂ (λ (front back : List ℕ). front ++ back) ones (digits-of-below right (below-drop 10 7 digits below)))
+      let ones = map-append (λ v. v % 10) left right ∙ ap₂ (λ (front back : List ℕ). front ++ back) (Left.digits-again digits long below) (digits-of-below right (below-drop 10 7 digits below)) in
+      ap (λ (rest : List ℕ). getD digits 0 0 ∷ rest) ones
       ∙ ap (λ (back : List ℕ). getD digits 0 0 ∷ (take 6 (drop 1 digits) ++ back)) (sym (drop-drop 6 1 digits))
       ∙ ap (λ (rest : List ℕ). getD digits 0 0 ∷ rest) (take-append-drop 6 (drop 1 digits))
       ∙ sym (drop-cons digits 0 0 (omega arith))
 
   pub scan-of-symbol : scanned (symbol digits) ≡ made digits
   unfolding scanned
-  scan-of-symbol = rw (halves, first-scanned, lt-ltb (getD digits 0 0) 10 (below 0 (omega arith))) (ap made digits-scanned)
+  scan-of-symbol = rw (halves, first-scanned, lt-ltb (getD digits 0 0) 10 (Left.first-below digits long below)) (ap made digits-scanned)
 
 -- values that were scanned, and a first digit
 module _ (widths values : List ℕ) (known : Halves AOrB 6 widths values) (first-below : firstOf values < 10) where
   abbrev ones : List ℕ
   ones = map (λ v. v % 10) values
 
-  left-drawn : inSets (getD parityRows (firstOf values) []) (take 6 ones) ≡ take 6 values
-  left-drawn =
-      ap₂ inSets (pattern-at parityRows (map (λ v. v / 10) (take 6 values)) first-below) (take-map (λ v. v % 10) 6 values)
-      ∙ values-again (take 6 values)
+  left-drawn : inSets (getD byFirstDigit (firstOf values) []) (take 6 ones) ≡ take 6 values
+  left-drawn = ap (inSets (getD byFirstDigit (firstOf values) [])) (take-map (λ v. v % 10) 6 values) ∙ values-again FirstDigit (take 6 values) first-below
 
   known-symbol : (symbol (firstOf values ∷ ones) ≡ widths) × (length (firstOf values ∷ ones) ≡ 13) × Below 10 (firstOf values ∷ ones)
   unfolding symbol

@@ -8,18 +8,18 @@ use Rattle.refusal.specs.declared.Refusal.the-variants.{Pattern}
 use Rattle.refusal.specs.Outcome.{Outcome, made, _>>=_, _>>_, must}
 use Rattle.digits.specs.Numbered.{numberWritten, numberRead}
 use Rattle.patterns.specs.Patterns.{valueIn}
+use Rattle.parity.specs.Letters.{inSets}
+use Rattle.parity.specs.Rows.{byFirstDigit}
 use Rattle.ean_upc.specs.declared.tables.Sets.the-variants.{AOrB}
-use Rattle.ean_upc.specs.Letters.{inSets}
 use Rattle.ean_upc.specs.Halves.{halvesDrawn, halvesIn}
-use Rattle.ean13.specs.Parity.{parityRows}
 
 unfoldable pub symbol : List ℕ → List ℕ
 symbol digits =
-    halvesDrawn AOrB (inSets (getD parityRows (getD digits 0 0) []) (take 6 (drop 1 digits))) (drop 7 digits)
+    halvesDrawn AOrB (inSets (getD byFirstDigit (getD digits 0 0) []) (take 6 (drop 1 digits))) (drop 7 digits)
 
 -- the first digit, by the letters of the left half; 10 where they are no row
 abbrev pub firstOf : List ℕ → ℕ
-firstOf values = valueIn parityRows (map (λ v. v / 10) (take 6 values))
+firstOf values = valueIn byFirstDigit (map (λ v. v / 10) (take 6 values))
 
 unfoldable pub scanned : List ℕ → Outcome (List ℕ)
 scanned widths = do

@@ -3,7 +3,6 @@ ghost use lib.ListN.{length};
 ghost use Rattle.refusal.specs.Fills.{Fills};
 ghost use Rattle.ean13.specs.Ean13.{writes, reads};
 
-mod parity;
 mod stages;
 
 use refusal::Answer;

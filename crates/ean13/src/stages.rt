@@ -5,11 +5,12 @@ ghost use Rattle.laws.specs.Below.{Below};
 ghost use Rattle.refusal.specs.Fills.{FillsOwn};
 ghost use Rattle.ean13.specs.Ean13.{symbol, scanned};
 use crate::Ean13;
-use crate::parity;
 use ean_upc::drawing;
-use ean_upc::letters;
 use ean_upc::scanning;
 use ean_upc::tables::Sets;
+use parity::letters;
+use parity::rows;
+use parity::rows::Rows;
 use patterns::Match;
 use refusal::Answer;
 use refusal::Refusal;
@@ -23,7 +24,7 @@ pub(crate) fn symbol(digits: &[u8]) -> [u8; Ean13::WIDTHS]
     requires { ⌜ Below 10 (now digits) ⌝ }
     ensures { λ r. ⌜ r ≡ symbol (now (digits .entry)) ⌝ }
 {
-    let row = parity::parity_row(digits[0] as usize);
+    let row = rows::row_of(Rows::FirstDigit, digits[0] as usize);
     let left = letters::in_sets(row, &digits[1..7]);
     let mut symbol = [0u8; Ean13::WIDTHS];
     drawing::halves(Sets::AOrB, &left, &digits[7..], &mut symbol);
@@ -40,7 +41,7 @@ pub(crate) fn digits_in(widths: &[u8], digits: &mut [u8]) -> Answer
     let Answer::Done(_) = halves else {
         return halves;
     };
-    let Match::Value(first) = parity::first_digit(&values[..HALF]) else {
+    let Match::Value(first) = rows::digit_of(Rows::FirstDigit, &values[..HALF]) else {
         return Answer::Refused(Refusal::Pattern(12));
     };
     digits[0] = first;

@@ -1,10 +1,8 @@
 -- What the functions' proofs, and the crates of the symbologies, rest on.
 --
 --   SetLaws      the patterns of a half, by computed tests
---   LetterLaws   letter and digit of a value in set A or B, there and back
 --   DrawnLaws    halves drawn part by part
 --   HalvesLaws   two halves between their guards, there and back
 pub mod SetLaws
-pub mod LetterLaws
 pub mod DrawnLaws
 pub mod HalvesLaws

@@ -2,11 +2,8 @@
 --
 --   setA, setB, setC    Tables    the widths of the ten digits in each set
 --   guard, centre       Tables    the guard patterns
---   A, B                Letters   the letters that name sets A and B
---   inSets              Letters   the values of digits, each in the set that its letter names
 --   patternsOf          Halves    the patterns of a half, by the sets that it takes its characters from
 --   halvesDrawn         Halves    the widths of two halves between their guards
 --   guarded, halvesIn   Halves    the values that such widths hold: refusals 1, 4 and 5
 pub mod Tables
-pub mod Letters
 pub mod Halves

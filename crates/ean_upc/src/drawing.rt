@@ -27,7 +27,7 @@ pub fn halves(sets: Sets, left: &[u8], right: &[u8], to: &mut [u8])
 }
 
 // Draws a guard and the half that follows it.
-fn guarded_half(guard: &[u8], sets: Sets, values: &[u8], to: &mut [u8])
+pub fn guarded_half(guard: &[u8], sets: Sets, values: &[u8], to: &mut [u8])
     requires { ⌜ length (now to) ≡ length (now guard) + 4 * length (now values) ⌝ }
     requires { ⌜ Below (length (patternsOf sets)) (now values) ⌝ }
     ensures { λ _. ⌜ now (to .exit) ≡ now (guard .entry) ++ drawn (patternsOf sets) (now (values .entry)) ⌝ }

@@ -1,5 +1,4 @@
-// What the symbols of the EAN/UPC family share: digits in sets A, B and C, halves scanned and drawn, and the letters of sets A and B.
+// What the symbols of the EAN/UPC family share: digits in sets A, B and C, and halves scanned and drawn.
 pub mod drawing;
-pub mod letters;
 pub mod scanning;
 pub mod tables;

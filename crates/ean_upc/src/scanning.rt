@@ -59,7 +59,7 @@ fn guarded(count: usize, widths: &[u8]) -> bool
 }
 
 // The values of a half's characters, as many as there are places for; `place` is that of the first.
-fn half(sets: Sets, place: usize, widths: &[u8], values: &mut [u8]) -> Answer
+pub fn half(sets: Sets, place: usize, widths: &[u8], values: &mut [u8]) -> Answer
     requires { ⌜ 4 * length (now values) ≤ length (now widths) ⌝ }
     requires { ⌜ place ≤ 12 ⌝ }
     ensures { λ r. ⌜ FillsOwn (characters (patternsOf sets) 4 (length (now (values .entry))) place (now (widths .entry))) (now (values .entry)) r (now (values .exit)) ⌝ }

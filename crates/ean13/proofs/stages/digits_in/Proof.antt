@@ -15,10 +15,10 @@ use Rattle.refusal.specs.Outcome.{made}
 use Rattle.refusal.proofs.FillsLaws.{refused-of-answer}
 use Rattle.refusal.proofs.OwnLaws.{own-refused, own-passed, own-filled, own-made}
 use Rattle.patterns.proofs.MatchLaws.{value-of-match, value-of-nothing}
+use Rattle.parity.specs.Rows.{byFirstDigit}
 use Rattle.ean_upc.specs.declared.tables.Sets.the-variants.{AOrB}
 use Rattle.ean_upc.specs.Halves.{halvesIn}
 use Rattle.ean_upc.proofs.HalvesLaws.{drawn-of-halves}
-use Rattle.ean13.specs.Parity.{parityRows}
 use Rattle.ean13.specs.Ean13.{firstOf, scanned}
 use Rattle.ean13.proofs.stages.digits_in.Statement.{statement}
 use Rattle.ean13.proofs.stages.digits_in.Tie as tie
@@ -47,7 +47,7 @@ returns c =
     own-passed _ _ _ f _ is (rw (refused-of-answer (halvesIn AOrB 6 (widths at)) f (sym is ∙ at .halves .ensures .answer)))
 
 -- where the first digit was looked for
-module _ (c : tie.After-first-digit) where
+module _ (c : tie.After-digit-of) where
   abbrev told : tie.After-enum-told
   told = c .before .before
 
@@ -62,12 +62,12 @@ returns-2 : tie.Need-returns-2
 unfolding scanned
 returns-2 c =
     let looked = c .before .before in
-    let none : firstOf (values (at looked)) ≡ 10 = value-of-nothing parityRows _ (sym (c .enum-told3 .given .1) ∙ looked .first-digit .ensures) in
+    let none : firstOf (values (at looked)) ≡ 10 = value-of-nothing byFirstDigit _ (sym (c .enum-told3 .given .1) ∙ looked .digit-of .ensures) in
     own-refused _ _ _ (Pattern 12) (rw (scanned-halves looked, none))
 
 -- where it was found
 module _ (c : tie.After-first) where
-  abbrev looked : tie.After-first-digit
+  abbrev looked : tie.After-digit-of
   looked = c .before .before
 
   abbrev first : ℕ
@@ -79,7 +79,7 @@ module _ (c : tie.After-first) where
   scanned-digits : scanned (widths (at looked)) ≡ made digits
   unfolding scanned
   scanned-digits =
-      let found = value-of-match parityRows _ first (sym (c .first .given .1) ∙ looked .first-digit .ensures) in
+      let found = value-of-match byFirstDigit _ first (sym (c .first .given .1) ∙ looked .digit-of .ensures) in
       rw (scanned-halves looked, found .0, lt-ltb first 10 (found .1))
 
   thirteen : length digits ≡ 13

@@ -1,20 +1,20 @@
 -- `ean13::stages::symbol` meets its contract: the left half's values are those of the first digit's row, and the halves are the rule's.
 use Prim.Native.Nat.{ℕ, _-_, _<_}
 use mathlib.Core.Path.{_≡_, ap, ap₂, _∙_}
-use mathlib.Core.List.{List, []}
+use mathlib.Core.List.{List}
 use native.Mathlib.Omega.{arith}
 use lib.ListN.{length, getD, take, drop, length-take, length-drop}
 use lib.Seq.{take-all}
 use borrow.Author.Needs.{needs}
 use Rattle.laws.specs.Below.{Below}
 use Rattle.laws.proofs.BelowLaws.{below-take, below-drop}
+use Rattle.parity.specs.declared.rows.Rows.the-variants.{FirstDigit}
+use Rattle.parity.specs.Letters.{inSets}
+use Rattle.parity.proofs.RowLaws.{letters-of-row}
 use Rattle.ean_upc.specs.declared.tables.Sets.the-variants.{AOrB}
-use Rattle.ean_upc.specs.Letters.{inSets}
 use Rattle.ean_upc.specs.Halves.{halvesDrawn}
-use Rattle.ean13.specs.Parity.{parityRows}
 use Rattle.ean13.specs.Ean13.{symbol}
-use Rattle.ean13.proofs.ParityLaws.{letters-of-row}
-use Rattle.ean13.proofs.LeftHalf.{length-of-left, left-digits-below, six-values, values-below}
+use Rattle.ean13.proofs.LeftHalf as Left
 use Rattle.ean13.proofs.stages.symbol.Statement.{statement}
 use Rattle.ean13.proofs.stages.symbol.Tie as tie
 
@@ -30,35 +30,35 @@ module _ (c : tie.Start) where
   below = c .pre .1
 
   first-below : getD digits 0 0 < 10
-  first-below = below 0 (omega arith)
+  first-below = Left.first-below digits long below
 
 in-sets-requires : tie.Need-in-sets-requires
 in-sets-requires c κs =
     let row = c .before in
     let start = row .before .before .before in
-    let letters = letters-of-row (getD (digits start) 0 0) (first-below start) in
-    (rw (row .parity-row .ensures) letters, (length-of-left (digits start) (long start) (below start), left-digits-below (digits start) (long start) (below start)))
+    let letters = letters-of-row FirstDigit (getD (digits start) 0 0) (first-below start) in
+    (rw (row .row-of .ensures) letters, (Left.length-of-left (digits start) (long start) (below start), Left.left-digits-below (digits start) (long start) (below start)))
 
 -- the values of the left half
 module _ (c : tie.After-in-sets) where
-  abbrev row : tie.After-parity-row
+  abbrev row : tie.After-row-of
   row = c .before .before
 
   abbrev start : tie.Start
   start = row .before .before .before
 
-  left-is : c .in-sets .result ≡ inSets (getD parityRows (getD (digits start) 0 0) []) (take 6 (drop 1 (digits start)))
-  left-is = c .in-sets .ensures ∙ ap (λ (letters : List ℕ). inSets letters (take 6 (drop 1 (digits start)))) (row .parity-row .ensures)
+  left-is : c .in-sets .result ≡ Left.left (digits start) (long start) (below start)
+  left-is = c .in-sets .ensures ∙ ap (λ (letters : List ℕ). inSets letters (take 6 (drop 1 (digits start)))) (row .row-of .ensures)
 
 halves-requires : tie.Need-halves-requires
 halves-requires c κs =
     let left = c .before .before .before in
     let ds = digits (start left) in
     let ten = below (start left) in
-    let six = six-values ds (long (start left)) ten in
+    let six = Left.six-values ds (long (start left)) ten in
     rw (left-is left) (
       simp (length-take, length-drop) (omega arith),
-      (values-below ds (long (start left)) ten, below-take 10 (length ds - 7) (drop 7 ds) (below-drop 10 7 ds ten)),
+      (Left.values-below ds (long (start left)) ten, below-take 10 (length ds - 7) (drop 7 ds) (below-drop 10 7 ds ten)),
     )
 
 returns : tie.Need-returns

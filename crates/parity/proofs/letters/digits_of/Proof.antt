@@ -1,4 +1,4 @@
--- `ean_upc::letters::digits_of` meets its contract: after i turns the list holds the digits of the first i values, and then what it held.
+-- `parity::letters::digits_of` meets its contract: after i turns the list holds the digits of the first i values, and then what it held.
 use Prim.Native.Nat.{_-_, _%_, _≤_}
 use mathlib.Core.Path.{_≡_, refl, _∙_}
 use mathlib.Core.List.{_++_, map}
@@ -6,8 +6,8 @@ use native.Mathlib.Omega.{arith}
 use borrow.Author.Needs.{needs}
 use lib.ListN.{length, take, drop, length-set}
 use Rattle.laws.proofs.Copying.{mapped-more, mapped-whole}
-use Rattle.ean_upc.proofs.letters.digits_of.Statement.{statement}
-use Rattle.ean_upc.proofs.letters.digits_of.Tie as tie
+use Rattle.parity.proofs.letters.digits_of.Statement.{statement}
+use Rattle.parity.proofs.letters.digits_of.Tie as tie
 
 abbrev Inv-loop : tie.InvT-loop
 Inv-loop values digits₀ i₀ digits i =

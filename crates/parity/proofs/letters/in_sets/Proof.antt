@@ -1,4 +1,4 @@
--- `ean_upc::letters::in_sets` meets its contract: after i turns the first i values stand, each the digit in the set of its letter.
+-- `parity::letters::in_sets` meets its contract: after i turns the first i values stand, each the digit in the set of its letter.
 use Prim.Native.Nat.{_-_, _≤_}
 use mathlib.Core.Path.{_≡_, refl, _∙_}
 use mathlib.Core.List.{_++_}
@@ -6,10 +6,10 @@ use native.Mathlib.Omega.{arith}
 use borrow.Author.Needs.{needs}
 use lib.ListN.{length, take, drop}
 use Rattle.laws.proofs.Copying.{copied-more, copied-whole}
-use Rattle.ean_upc.specs.Letters.{inSets}
-use Rattle.ean_upc.proofs.LetterLaws.{length-in-sets, in-sets-at}
-use Rattle.ean_upc.proofs.letters.in_sets.Statement.{statement}
-use Rattle.ean_upc.proofs.letters.in_sets.Tie as tie
+use Rattle.parity.specs.Letters.{inSets}
+use Rattle.parity.proofs.LetterLaws.{length-in-sets, in-sets-at}
+use Rattle.parity.proofs.letters.in_sets.Statement.{statement}
+use Rattle.parity.proofs.letters.in_sets.Tie as tie
 
 abbrev Inv-loop : tie.InvT-loop
 Inv-loop digits letters values₀ i₀ values i =

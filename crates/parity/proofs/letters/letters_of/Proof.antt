@@ -1,11 +1,11 @@
--- `ean_upc::letters::letters_of` meets its contract: the values, written out by their elements.
+-- `parity::letters::letters_of` meets its contract: the values, written out by their elements.
 use Prim.Native.Nat.{_/_}
 use mathlib.Core.Path.{ap}
 use mathlib.Core.List.{map}
 use Rattle.laws.proofs.Listed.{listed-whole}
 use borrow.Author.Needs.{needs}
-use Rattle.ean_upc.proofs.letters.letters_of.Statement.{statement}
-use Rattle.ean_upc.proofs.letters.letters_of.Tie as tie
+use Rattle.parity.proofs.letters.letters_of.Statement.{statement}
+use Rattle.parity.proofs.letters.letters_of.Tie as tie
 
 returns : tie.Need-returns
 returns c =

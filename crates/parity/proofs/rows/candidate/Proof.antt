@@ -1,27 +1,26 @@
--- `ean13::parity::first_candidate` meets its contract: one computed test finds each of the ten digits where its own row leads in the table.
+-- `parity::rows::candidate` meets its contract: one computed test over each table's rows finds each digit where its own row leads.
 use Prim.Native.Nat.{ℕ, _+_, _*_, _%_, _<_}
-use mathlib.Core.Bool.{Bool}
 use mathlib.Core.List.{List, [], _∷_}
 use native.Mathlib.Omega.{arith}
 use lib.ListN.{getD}
-use lib.Dec.{ltb, ltb→lt}
-use Rattle.laws.proofs.Tables.{every, at-entry}
-use Rattle.patterns.proofs.CharacterLaws.{length-at}
-use Rattle.ean13.specs.Parity.{parityRows}
-use Rattle.patterns.proofs.MatchLaws.{one-candidate}
 use borrow.Author.Needs.{needs}
-use Rattle.ean13.proofs.parity.first_candidate.Statement.{statement}
-use Rattle.ean13.proofs.parity.first_candidate.Tie as tie
+use Rattle.laws.proofs.Tables.{at-entry}
+use Rattle.patterns.proofs.CharacterLaws.{length-at}
+use Rattle.patterns.proofs.DrawnBelow.{small, row-below}
+use Rattle.patterns.proofs.MatchLaws.{one-candidate}
+use Rattle.parity.specs.Rows.{byFirstDigit, byCheckDigit}
+use Rattle.parity.proofs.rows.candidate.Statement.{statement}
+use Rattle.parity.proofs.rows.candidate.Tie as tie
 
-firsts : List (List ℕ)
-firsts =
+table : List (List ℕ)
+table =
     (0 ∷ 0 ∷ 0 ∷ 0 ∷ 0 ∷ 0 ∷ 0 ∷ 0 ∷ [])
     ∷ (0 ∷ 0 ∷ 0 ∷ 1 ∷ 0 ∷ 2 ∷ 3 ∷ 0 ∷ [])
     ∷ (0 ∷ 0 ∷ 0 ∷ 4 ∷ 0 ∷ 7 ∷ 8 ∷ 0 ∷ [])
     ∷ (0 ∷ 5 ∷ 9 ∷ 0 ∷ 6 ∷ 0 ∷ 0 ∷ 0 ∷ [])
-    ∷ (0 ∷ 0 ∷ 0 ∷ 0 ∷ 0 ∷ 0 ∷ 0 ∷ 0 ∷ [])
-    ∷ (0 ∷ 0 ∷ 0 ∷ 0 ∷ 0 ∷ 0 ∷ 0 ∷ 0 ∷ [])
-    ∷ (0 ∷ 0 ∷ 0 ∷ 0 ∷ 0 ∷ 0 ∷ 0 ∷ 0 ∷ [])
+    ∷ (0 ∷ 0 ∷ 0 ∷ 6 ∷ 0 ∷ 9 ∷ 5 ∷ 0 ∷ [])
+    ∷ (0 ∷ 8 ∷ 7 ∷ 0 ∷ 4 ∷ 0 ∷ 0 ∷ 0 ∷ [])
+    ∷ (0 ∷ 3 ∷ 2 ∷ 0 ∷ 1 ∷ 0 ∷ 0 ∷ 0 ∷ [])
     ∷ (0 ∷ 0 ∷ 0 ∷ 0 ∷ 0 ∷ 0 ∷ 0 ∷ 0 ∷ [])
     ∷ []
 
@@ -33,25 +32,22 @@ placeAt letters = getD letters 3 0 % 2 * 4 + getD letters 4 0 % 2 * 2 + getD let
 
 -- what stands in the table for some letters
 look : List ℕ → ℕ
-look letters = getD (getD firsts (rowAt letters) []) (placeAt letters) 0
-
--- every digit of the table is below ten
-digits : ℕ → List ℕ → Bool
-digits k row = every (λ j digit. ltb digit 10) row
+look letters = getD (getD table (rowAt letters) []) (placeAt letters) 0
 
 look-below : (letters : List ℕ) → look letters < 10
-unfolding firsts rowAt placeAt look digits
+unfolding table rowAt placeAt look
 look-below letters =
-    let row = getD firsts (rowAt letters) [] in
-    let long = length-at firsts 8 tt (rowAt letters) (omega arith) in
-    ltb→lt _ 10 (at-entry (λ j digit. ltb digit 10) 0 row (at-entry digits [] firsts tt (rowAt letters) (omega arith)) (placeAt letters) (omega arith))
+    let long = length-at table 8 tt (rowAt letters) (omega arith) in
+    row-below 10 (getD table (rowAt letters) []) (at-entry (λ (k : ℕ) (row : List ℕ). small 10 row) [] table tt (rowAt letters) (omega arith)) (placeAt letters) (omega arith)
 
 returns : tie.Need-returns
-unfolding firsts rowAt placeAt look
-returns c = (look-below (c .before .args .t1), one-candidate look parityRows tt (c .before .args .t1))
+unfolding table rowAt placeAt look
+returns c =
+    let letters = c .before .args .t1 in
+    (look-below letters, (one-candidate look byFirstDigit tt letters, one-candidate look byCheckDigit tt letters))
 
-pub first-candidate-spec : {M : Type 1} → statement M
-first-candidate-spec =
+pub candidate-spec : {M : Type 1} → statement M
+candidate-spec =
     tie.close
     (tie.spec
     (λ c. search needs)

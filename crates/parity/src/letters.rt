@@ -4,7 +4,7 @@ ghost use mathlib.Core.List.{map};
 ghost use Prim.Native.Nat.{_/_, _%_};
 ghost use lib.ListN.{length};
 ghost use Rattle.laws.specs.Below.{Below};
-ghost use Rattle.ean_upc.specs.Letters.{inSets};
+ghost use Rattle.parity.specs.Letters.{inSets};
 
 pub const A: u8 = 0;
 

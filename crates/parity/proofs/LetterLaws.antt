@@ -1,4 +1,4 @@
--- The values of a left half: letter and digit at each place, and both come back from the value.
+-- The values of digits in sets A and B: letter and digit at each place, and both come back from the value.
 use Prim.Native.Nat.{ℕ, zero, suc, _+_, _*_, _/_, _%_, _<_}
 use mathlib.Core.Path.{_≡_, refl, ap, ap₂}
 use mathlib.Core.List.{List, [], _∷_, map}
@@ -7,7 +7,7 @@ use native.Mathlib.Omega.{arith}
 use lib.ListN.{length, getD, List·getD-map}
 use Rattle.laws.specs.Below.{Below}
 use Rattle.laws.proofs.BelowLaws.{below-rest}
-use Rattle.ean_upc.specs.Letters.{inSets}
+use Rattle.parity.specs.Letters.{inSets}
 
 pub length-in-sets : (letters digits : List ℕ) → length letters ≡ length digits → length (inSets letters digits) ≡ length digits
 length-in-sets [] [] e = refl
