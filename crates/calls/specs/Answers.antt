@@ -15,7 +15,7 @@ use Rattle.text.specs.Typed.{messageOf}
 use Rattle.text.specs.Widths.{Said, widths, nothing, widthsIn}
 use Rattle.digits.specs.Check.{checkDigit}
 use Rattle.symbols.specs.declared.Kind.{Kind}
-use Rattle.symbols.specs.declared.Kind.the-variants.{Ean13, Ean8, Itf14, Gs1128}
+use Rattle.symbols.specs.declared.Kind.the-variants.{Ean13, Ean8, UpcE, Itf14, Gs1128}
 use Rattle.symbols.specs.Kinds.{readsAs, writesAs}
 use Rattle.symbols.specs.Readings.{reads}
 use Rattle.elements.specs.declared.Element.{Element}
@@ -43,16 +43,17 @@ use Rattle.calls.specs.declared.symbol_lines.Part.{Part}
 abbrev pub kindName : Kind → List ℕ
 kindName Ean13 = asBytes " ean13 "
 kindName Ean8 = asBytes " ean8 "
+kindName UpcE = asBytes " upce "
 kindName Itf14 = asBytes " itf14 "
 kindName Gs1128 = asBytes " gs1 "
 
 -- the names one after the other, and a part of them that is a kind's
 abbrev pub kindNames : List ℕ
-kindNames = asBytes " ean13 ean8 itf14 gs1 "
+kindNames = asBytes " ean13 ean8 upce itf14 gs1 "
 
 pub record NameAt (kind : Kind) (part : Part) : Type 0 where
   pub ordered : part .from ≤ part .to
-  pub within : part .to ≤ 22
+  pub within : part .to ≤ 27
   pub names : take (part .to - part .from) (drop (part .from) kindNames) ≡ kindName kind
 
 -- a reading that names its kind

@@ -84,7 +84,7 @@ fn read_any(widths: &[u8], content: &mut [u8], out: &mut [u8]) -> usize
             let name = name_of(kind);
             let from = name.from;
             let to = name.to;
-            let names = *b" ean13 ean8 itf14 gs1 ";
+            let names = *b" ean13 ean8 upce itf14 gs1 ";
             read_as(kind, &names[from..to], widths, content, out)
         }
         Named::Refused(refusal) => put_answer(Answer::Refused(refusal), out),
@@ -93,7 +93,7 @@ fn read_any(widths: &[u8], content: &mut [u8], out: &mut [u8]) -> usize
 
 // A symbol of one kind, with some text between the count and what it holds.
 fn read_as(kind: Kind, between: &[u8], widths: &[u8], content: &mut [u8], out: &mut [u8]) -> usize
-    requires { ⌜ length (now between) ≤ 22 ⌝ }
+    requires { ⌜ length (now between) ≤ 27 ⌝ }
     requires { ⌜ length (now content) ≤ 700 ⌝ }
     requires { ⌜ 1024 ≤ length (now out) ⌝ }
     ensures { λ r. ⌜ Puts (lineOf AsBytes (now (between .entry)) (readsAs kind (now (widths .entry)) (length (now (content .entry))))) (now (out .entry)) r (now (out .exit)) ⌝ }
@@ -109,7 +109,8 @@ fn name_of(kind: Kind) -> Part
     match kind {
         Kind::Ean13 => Part { from: 0, to: 7 },
         Kind::Ean8 => Part { from: 6, to: 12 },
-        Kind::Itf14 => Part { from: 11, to: 18 },
-        Kind::Gs1128 => Part { from: 17, to: 22 },
+        Kind::UpcE => Part { from: 11, to: 17 },
+        Kind::Itf14 => Part { from: 16, to: 23 },
+        Kind::Gs1128 => Part { from: 22, to: 27 },
     }
 }

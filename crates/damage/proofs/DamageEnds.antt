@@ -1,4 +1,4 @@
--- What the reader of an unnamed list needs of a damaged symbol: its count is the symbol's own or even, so it is neither 59 nor 77; and of
+-- What the reader of an unnamed list needs of a damaged symbol: its count is the symbol's own or even, so it is none of 33, 59 and 77; and of
 -- its first and last widths, which were both 2, one still is, so 43 widths that have come to begin with 1 don't end like an EAN-8.
 use Prim.Native.Nat.{ℕ, suc, _+_, _-_, _*_, _%_, _≤_, _<_}
 use mathlib.Core.Path.{_≡_, sym, ap, _∙_}
@@ -91,11 +91,11 @@ module _ {widths message : List ℕ} (s : IsSymbol widths message) where
       go (yes is) = inr (getD-set-other widths i (6 * length xs + 6) x 0 (omega arith) ∙ ends)
       go (no past) = inl (getD-set-other widths i 0 x 0 (omega arith) ∙ begins)
 
--- "59 widths", "77 widths": a damaged symbol goes to neither reader
-pub damaged-count : {widths message damaged : List ℕ} (s : IsSymbol widths message) → Damaged s damaged → (length damaged ≢ 59) × (length damaged ≢ 77)
+-- "59 widths", "33 widths", "77 widths": a damaged symbol goes to none of these readers
+pub damaged-count : {widths message damaged : List ℕ} (s : IsSymbol widths message) → Damaged s damaged → (length damaged ≢ 59) × (length damaged ≢ 33) × (length damaged ≢ 77)
 damaged-count {damaged = damaged} s d = go (kept s d)
   where
-    go : Kept s damaged → (length damaged ≢ 59) × (length damaged ≢ 77)
+    go : Kept s damaged → (length damaged ≢ 59) × (length damaged ≢ 33) × (length damaged ≢ 77)
     go (inl even) = omega arith
     go (inr same) = omega (arith, size s)
 

@@ -26,10 +26,10 @@ use Rattle.spelling.specs.Best.{comesFirst, better, bests, bestSpelling}
 use Rattle.gs1_128.specs.Symbol.{symbolOf}
 use Rattle.gs1_128.specs.Scanning.{guarded, startIn, judgedValues, scanned}
 use Rattle.gs1_128.specs.Rules as Gs1
-use Rattle.symbols.specs.Kinds.{kindOf, readsAs}
+use Rattle.symbols.specs.Kinds.{kindOf, readsAs, writesAs}
 use Rattle.symbols.specs.Readings.{reads}
 use Rattle.examples.specs.Examples.{Example, examples, ruled}
 
 pub examples-hold : map ruled examples ≡ map (λ (example : Example). example .shown) examples
-unfolding ruled examples reads kindOf readsAs writes13 reads13 symbol13 scanned13 writes8 reads8 symbol8 scanned8 writes14 reads14 symbol14 scanned14 pairs numberWritten numberRead rightNumber digitsOf Gs1.writes Gs1.reads Gs1.messageIn Gs1.messageFrom tested isMessageByte bestSpelling bests better comesFirst checkOf placed symbolOf drawn patterns scanned startIn guarded judgedValues characters valueIn same firstNot decoded spells stepIn meaningIn parsed stringsFrom stringAt elementOf nextAfter dataOf rightData passes isNumber isDate isRight weightAt weighed identifierIn firstOf listed identifiersOf table measures rowKind kindIn spelled isOf82 eightyTwo toSeparator placeIn halvesDrawn guardedHalves halvesIn between
+unfolding ruled examples reads kindOf readsAs writesAs writes13 reads13 symbol13 scanned13 writes8 reads8 symbol8 scanned8 writes14 reads14 symbol14 scanned14 pairs numberWritten numberRead rightNumber digitsOf Gs1.writes Gs1.reads Gs1.messageIn Gs1.messageFrom tested isMessageByte bestSpelling bests better comesFirst checkOf placed symbolOf drawn patterns scanned startIn guarded judgedValues characters valueIn same firstNot decoded spells stepIn meaningIn parsed stringsFrom stringAt elementOf nextAfter dataOf rightData passes isNumber isDate isRight weightAt weighed identifierIn firstOf listed identifiersOf table measures rowKind kindIn spelled isOf82 eightyTwo toSeparator placeIn halvesDrawn guardedHalves halvesIn between
 examples-hold = refl

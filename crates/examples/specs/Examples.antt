@@ -9,13 +9,10 @@ use Rattle.refusal.specs.Numbers.{numberOf, placeOf}
 use Rattle.digits.specs.Digit.{valueOf}
 use Rattle.text.specs.Typed.{messageOf}
 use Rattle.spelling.specs.Best.{bestSpelling}
-use Rattle.ean13.specs.Ean13 as Ean13
-use Rattle.ean8.specs.Ean8 as Ean8
-use Rattle.itf14.specs.Itf14 as Itf14
 use Rattle.gs1_128.specs.Symbol.{checked}
-use Rattle.gs1_128.specs.Rules as Gs1128
 use Rattle.symbols.specs.declared.Kind.{Kind}
-use Rattle.symbols.specs.declared.Kind.the-variants.{Ean13, Ean8, Itf14, Gs1128}
+use Rattle.symbols.specs.declared.Kind.the-variants.{Ean13, Ean8, UpcE, Itf14, Gs1128}
+use Rattle.symbols.specs.Kinds.{writesAs}
 use Rattle.symbols.specs.Readings.{reads}
 use Rattle.laws.specs.Text.{asBytes}
 
@@ -65,15 +62,11 @@ examples =
     ∷ refusedWith Gs1128 "0110012345678903" 10 0
     ∷ []
 
-abbrev written : Kind → List ℕ → Outcome (List ℕ)
-written Ean13 number = Ean13.writes number 619
-written Ean8 number = Ean8.writes number 619
-written Itf14 number = Itf14.writes number 619
-written Gs1128 message = Gs1128.writes message 619
-
+-- of a number its digits, of a message the symbol characters
 abbrev charactersOf : Kind → List ℕ → List ℕ
 charactersOf Ean13 number = map valueOf number
 charactersOf Ean8 number = map valueOf number
+charactersOf UpcE number = map valueOf number
 charactersOf Itf14 number = map valueOf number
 charactersOf Gs1128 message = checked (bestSpelling message)
 
@@ -84,6 +77,6 @@ shownBy (refused f) = refusal (numberOf f) (placeOf f)
 -- what the rules make of an example
 unfoldable pub ruled : Example → Shown
 ruled example = shownBy (do
-  widths ← written (example .kind) (example .given)
+  widths ← writesAs (example .kind) (example .given) 619
   reading ← reads widths 48
   made (symbol (charactersOf (example .kind) (example .given)) (length widths) (reading .0) (reading .1)))

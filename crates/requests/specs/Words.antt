@@ -6,7 +6,7 @@ use mathlib.Core.Bool.{cond}
 use mathlib.Core.List.{List, [], _∷_, _++_}
 use Rattle.laws.specs.Text.{asBytes}
 use Rattle.patterns.specs.Patterns.{same}
-use Rattle.symbols.specs.declared.Kind.the-variants.{Ean13, Ean8, Itf14, Gs1128}
+use Rattle.symbols.specs.declared.Kind.the-variants.{Ean13, Ean8, UpcE, Itf14, Gs1128}
 use Rattle.requests.specs.declared.Argument.{Argument}
 use Rattle.requests.specs.declared.Argument.the-variants.{Digits, Number, Message, Widths, Identifier, Data}
 use Rattle.requests.specs.declared.Which.the-variants.{Only, Any}
@@ -30,6 +30,7 @@ drawing =
     row "digit" Digits [] 64 Digit
     ∷ row "ean13" Number [] 700 (Draw Ean13)
     ∷ row "ean8" Number [] 700 (Draw Ean8)
+    ∷ row "upce" Number [] 700 (Draw UpcE)
     ∷ row "itf14" Number [] 700 (Draw Itf14)
     ∷ row "gs1" Message [] 700 (Draw Gs1128)
     ∷ []
@@ -38,6 +39,7 @@ abbrev pub reading : List Row
 reading =
     row "read-ean13" Widths [] 64 (Read (Only Ean13))
     ∷ row "read-ean8" Widths [] 64 (Read (Only Ean8))
+    ∷ row "read-upce" Widths [] 64 (Read (Only UpcE))
     ∷ row "read-itf14" Widths [] 64 (Read (Only Itf14))
     ∷ row "read-gs1" Widths [] 64 (Read (Only Gs1128))
     ∷ row "read" Widths [] 64 (Read Any)

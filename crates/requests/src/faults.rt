@@ -13,7 +13,7 @@ pub fn put_help(out: &mut [u8]) -> usize
     ensures { λ r. ⌜ Puts helpLine (now (out .entry)) r (now (out .exit)) ⌝ }
 {
     put_text(
-        b"digit DIGITS, ean13 NUMBER, ean8 NUMBER, itf14 NUMBER, gs1 MESSAGE, read-ean13 WIDTHS, read-ean8 WIDTHS, read-itf14 WIDTHS, read-gs1 WIDTHS, read WIDTHS, test MESSAGE, split MESSAGE, ask ID MESSAGE, add ID DATA MESSAGE, room N CALL, help\n",
+        b"digit DIGITS, ean13 NUMBER, ean8 NUMBER, upce NUMBER, itf14 NUMBER, gs1 MESSAGE, read-ean13 WIDTHS, read-ean8 WIDTHS, read-upce WIDTHS, read-itf14 WIDTHS, read-gs1 WIDTHS, read WIDTHS, test MESSAGE, split MESSAGE, ask ID MESSAGE, add ID DATA MESSAGE, room N CALL, help\n",
         out,
     )
 }

@@ -25,6 +25,9 @@ pub fn find(word: &[u8]) -> Named
     if equal(word, b"ean8") {
         return Named::As(Word::Draw(Kind::Ean8), Argument::Number, 700);
     }
+    if equal(word, b"upce") {
+        return Named::As(Word::Draw(Kind::UpcE), Argument::Number, 700);
+    }
     if equal(word, b"itf14") {
         return Named::As(Word::Draw(Kind::Itf14), Argument::Number, 700);
     }
@@ -42,6 +45,9 @@ fn find_reading(word: &[u8]) -> Named
     }
     if equal(word, b"read-ean8") {
         return Named::As(Word::Read(Which::Only(Kind::Ean8)), Argument::Widths, 64);
+    }
+    if equal(word, b"read-upce") {
+        return Named::As(Word::Read(Which::Only(Kind::UpcE)), Argument::Widths, 64);
     }
     if equal(word, b"read-itf14") {
         return Named::As(Word::Read(Which::Only(Kind::Itf14)), Argument::Widths, 64);

@@ -24,6 +24,7 @@ use Rattle.ean_upc.specs.Halves.{guarded as guardedHalves, halvesIn}
 use Rattle.ean8.specs.Ean8.{scanned as scanned8, reads as reads8}
 use Rattle.ean13.proofs.Theorems as Ean13s
 use Rattle.ean8.proofs.Theorems as Ean8s
+use Rattle.upc_e.proofs.Theorems as UpcEs
 use Rattle.itf14.proofs.Theorems as Itf14s
 use Rattle.gs1_128.specs.Symbol.{permitted, starts}
 use Rattle.gs1_128.specs.Scanning.{guarded, scanned}
@@ -31,7 +32,7 @@ use Rattle.gs1_128.specs.Rules as Gs1
 use Rattle.gs1_128.proofs.ReadingLaws.{passed-scan}
 use Rattle.gs1_128.proofs.TableLaws.{starts-are}
 use Rattle.symbols.specs.declared.Kind.{Kind}
-use Rattle.symbols.specs.declared.Kind.the-variants.{Ean13, Ean8, Itf14, Gs1128}
+use Rattle.symbols.specs.declared.Kind.the-variants.{Ean13, Ean8, UpcE, Itf14, Gs1128}
 use Rattle.symbols.specs.Kinds.{hasCount, kindBy, kindOf, readsAs}
 
 not-permitted : (count other : ℕ) → permitted other ≡ false → permitted count ≡ true → count ≡ other → ⊥
@@ -43,9 +44,10 @@ not-permitted count other never has e =
 kind-of-count : (kind : Kind) (count first : ℕ) → hasCount kind count ≡ true → (count ≡ 43 → ⊥) → kindBy count first ≡ made kind
 kind-of-count Ean13 count first has other = rw has
 kind-of-count Ean8 count first has other = absurd (other (eqb-true count 43 has))
+kind-of-count UpcE count first has other = rw (eqb-true count 33 has)
 kind-of-count Itf14 count first has other = rw (eqb-true count 77 has)
 kind-of-count Gs1128 count first has other =
-    rw (ne-eqb count 59 (not-permitted count 59 refl has), ne-eqb count 43 other, ne-eqb count 77 (not-permitted count 77 refl has), has)
+    rw (ne-eqb count 59 (not-permitted count 59 refl has), ne-eqb count 43 other, ne-eqb count 33 (not-permitted count 33 refl has), ne-eqb count 77 (not-permitted count 77 refl has), has)
 
 -- kinds don't share a count but 43
 pub one-kind-of-count : (kind kind′ : Kind) (count : ℕ) → hasCount kind count ≡ true → hasCount kind′ count ≡ true → (count ≡ 43 → ⊥) → kind ≡ kind′
@@ -92,6 +94,7 @@ module _ (widths : List ℕ) where
   unfolding readsAs
   count-of-read Ean13 room bytes e = eq-eqb _ 59 (Ean13s.length-of-symbol bytes widths _ (Ean13s.write-of-read widths bytes room (length widths) e (omega arith)))
   count-of-read Ean8 room bytes e = eq-eqb _ 43 (Ean8s.length-of-symbol bytes widths _ (Ean8s.write-of-read widths bytes room (length widths) e (omega arith)))
+  count-of-read UpcE room bytes e = eq-eqb _ 33 (UpcEs.length-of-symbol bytes widths _ (UpcEs.write-of-read widths bytes room (length widths) e (omega arith)))
   count-of-read Itf14 room bytes e = eq-eqb _ 77 (Itf14s.length-of-written bytes widths _ (Itf14s.write-of-read widths bytes room (length widths) e (omega arith)))
   count-of-read Gs1128 room bytes e = begins128 room bytes e .0
 
@@ -100,6 +103,7 @@ module _ (widths : List ℕ) where
   unfolding readsAs kindOf
   named-if-read Ean13 room bytes e = rw (count-of-read Ean13 room bytes e)
   named-if-read Ean8 room bytes e = rw (eqb-true (length widths) 43 (count-of-read Ean8 room bytes e), ends8 room bytes e .0)
+  named-if-read UpcE room bytes e = rw (eqb-true (length widths) 33 (count-of-read UpcE room bytes e))
   named-if-read Itf14 room bytes e = rw (eqb-true (length widths) 77 (count-of-read Itf14 room bytes e))
   named-if-read Gs1128 room bytes e = go (begins128 room bytes e) (eqb (length widths) 43) refl
     where

@@ -10,10 +10,12 @@ use gs1_128::Gs1128;
 use itf14::Itf14;
 use refusal::Answer;
 use refusal::Refusal;
+use upc_e::UpcE;
 
 pub enum Kind {
     Ean13,
     Ean8,
+    UpcE,
     Itf14,
     Gs1128,
 }
@@ -60,6 +62,9 @@ pub fn kind_of(widths: &[u8]) -> Named
         }
         return Named::As(Kind::Gs1128);
     }
+    if count == UpcE::WIDTHS {
+        return Named::As(Kind::UpcE);
+    }
     if count == Itf14::WIDTHS {
         return Named::As(Kind::Itf14);
     }
@@ -76,6 +81,7 @@ pub fn read_as(kind: Kind, widths: &[u8], bytes: &mut [u8]) -> Answer
     match kind {
         Kind::Ean13 => Ean13::read(widths, bytes),
         Kind::Ean8 => Ean8::read(widths, bytes),
+        Kind::UpcE => UpcE::read(widths, bytes),
         Kind::Itf14 => Itf14::read(widths, bytes),
         Kind::Gs1128 => Gs1128::read(widths, bytes),
     }
@@ -88,6 +94,7 @@ pub fn write_as(kind: Kind, content: &[u8], widths: &mut [u8]) -> Answer
     match kind {
         Kind::Ean13 => Ean13::write(content, widths),
         Kind::Ean8 => Ean8::write(content, widths),
+        Kind::UpcE => UpcE::write(content, widths),
         Kind::Itf14 => Itf14::write(content, widths),
         Kind::Gs1128 => Gs1128::write(content, widths),
     }

@@ -25,14 +25,19 @@ returns-4 c = simp (ne-eqb _ _ (c .before .before .if1 .left), ne-eqb _ _ (c .be
 returns-5 : tie.Need-returns-5
 unfolding kindOf
 returns-5 c =
-    let permits = sym (c .before .permits .ensures) ∙ not-true _ (c .if5 .taken) in
-    simp (ne-eqb _ _ (c .before .before .before .before .if1 .left), ne-eqb _ _ (c .before .before .before .if2 .left), ne-eqb _ _ (c .before .before .if4 .left), permits)
+    simp (ne-eqb _ _ (c .before .before .before .if1 .left), ne-eqb _ _ (c .before .before .if2 .left), ne-eqb _ _ (c .before .if4 .left), eq-eqb _ _ (c .if5 .taken))
 
 returns-6 : tie.Need-returns-6
 unfolding kindOf
 returns-6 c =
-    let permits = sym (c .before .permits .ensures) ∙ not-false _ (c .if5 .left) in
-    simp (ne-eqb _ _ (c .before .before .before .before .if1 .left), ne-eqb _ _ (c .before .before .before .if2 .left), ne-eqb _ _ (c .before .before .if4 .left), permits)
+    let permits = sym (c .before .permits .ensures) ∙ not-true _ (c .if6 .taken) in
+    simp (ne-eqb _ _ (c .before .before .before .before .before .if1 .left), ne-eqb _ _ (c .before .before .before .before .if2 .left), ne-eqb _ _ (c .before .before .before .if4 .left), ne-eqb _ _ (c .before .before .if5 .left), permits)
+
+returns-7 : tie.Need-returns-7
+unfolding kindOf
+returns-7 c =
+    let permits = sym (c .before .permits .ensures) ∙ not-false _ (c .if6 .left) in
+    simp (ne-eqb _ _ (c .before .before .before .before .before .if1 .left), ne-eqb _ _ (c .before .before .before .before .if2 .left), ne-eqb _ _ (c .before .before .before .if4 .left), ne-eqb _ _ (c .before .before .if5 .left), permits)
 
 pub kind-of-spec : {M : Type 1} → statement M
 kind-of-spec =
@@ -43,6 +48,7 @@ kind-of-spec =
     returns-2
     returns-3
     returns-4
-    (λ c κs. search needs)
     returns-5
-    returns-6)
+    (λ c κs. search needs)
+    returns-6
+    returns-7)

@@ -44,6 +44,13 @@ left5 : (c : tie.Else5) → Left calls 5 (word5 c)
 unfolding calls
 left5 c named on = left4 (c .before .before .before) named (passed _ _ _ (c .before .equal5 .ensures) (c .if5 .left) on)
 
+abbrev word6 : tie.Else6 → List ℕ
+word6 c = word5 (c .before .before .before)
+
+left6 : (c : tie.Else6) → Left calls 6 (word6 c)
+unfolding calls
+left6 c named on = left5 (c .before .before .before) named (passed _ _ _ (c .before .equal6 .ensures) (c .if6 .left) on)
+
 returns : tie.Need-returns
 unfolding calls
 returns c = found _ _ _ (c .before .equal .ensures) (c .if1 .taken)
@@ -66,7 +73,11 @@ returns-5 c = left4 (c .before .before .before) _ (found _ _ _ (c .before .equal
 
 returns-6 : tie.Need-returns-6
 unfolding calls
-returns-6 c = left5 (c .before) _ (c .find-reading .ensures)
+returns-6 c = left5 (c .before .before .before) _ (found _ _ _ (c .before .equal6 .ensures) (c .if6 .taken))
+
+returns-7 : tie.Need-returns-7
+unfolding calls
+returns-7 c = left6 (c .before) _ (c .find-reading .ensures)
 
 pub find-spec : {M : Type 1} → statement M
 find-spec =
@@ -87,5 +98,8 @@ find-spec =
     (λ c. refl)
     (λ c κs. tt)
     returns-5
+    (λ c. refl)
     (λ c κs. tt)
-    returns-6)
+    returns-6
+    (λ c κs. tt)
+    returns-7)

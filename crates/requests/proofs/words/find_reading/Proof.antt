@@ -39,6 +39,12 @@ word5 c = word4 (c .before .before .before)
 left5 : (c : tie.Else5) → Left (reading ++ onMessages) 5 (word5 c)
 left5 c named on = left4 (c .before .before .before) named (passed _ _ _ (c .before .equal5 .ensures) (c .if5 .left) on)
 
+abbrev word6 : tie.Else6 → List ℕ
+word6 c = word5 (c .before .before .before)
+
+left6 : (c : tie.Else6) → Left (reading ++ onMessages) 6 (word6 c)
+left6 c named on = left5 (c .before .before .before) named (passed _ _ _ (c .before .equal6 .ensures) (c .if6 .left) on)
+
 returns : tie.Need-returns
 returns c = found _ _ _ (c .before .equal .ensures) (c .if1 .taken)
 
@@ -55,7 +61,10 @@ returns-5 : tie.Need-returns-5
 returns-5 c = left4 (c .before .before .before) _ (found _ _ _ (c .before .equal5 .ensures) (c .if5 .taken))
 
 returns-6 : tie.Need-returns-6
-returns-6 c = left5 (c .before) _ (c .find-on-messages .ensures)
+returns-6 c = left5 (c .before .before .before) _ (found _ _ _ (c .before .equal6 .ensures) (c .if6 .taken))
+
+returns-7 : tie.Need-returns-7
+returns-7 c = left6 (c .before) _ (c .find-on-messages .ensures)
 
 pub find-reading-spec : {M : Type 1} → statement M
 find-reading-spec =
@@ -76,5 +85,8 @@ find-reading-spec =
     (λ c. refl)
     (λ c κs. tt)
     returns-5
+    (λ c. refl)
     (λ c κs. tt)
-    returns-6)
+    returns-6
+    (λ c κs. tt)
+    returns-7)
