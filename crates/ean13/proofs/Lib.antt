@@ -1,8 +1,6 @@
 -- What the functions' proofs rest on, and the theorems.
 --
---   LeftHalf     the left half of thirteen digits
 --   SymbolLaws   the scan and the symbol undo one another
 --   Theorems     the same of the calls' rules, and what follows
-pub mod LeftHalf
 pub mod SymbolLaws
 pub mod Theorems

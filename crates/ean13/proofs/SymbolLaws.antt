@@ -4,12 +4,12 @@ use Prim.Native.Nat.{ℕ, _/_, _%_, _<_}
 use mathlib.Core.Path.{_≡_, sym, ap, ap₂, _∙_, subst}
 use mathlib.Core.List.{List, [], _∷_, _++_, map, map-append}
 use native.Mathlib.Omega.{arith}
-use lib.ListN.{length, getD, take, drop, length-drop, length-map, take-append-drop}
+use lib.ListN.{length, getD, take, drop, length-take, length-drop, length-map, take-append-drop}
 use lib.Seq.{take-at, drop-cons, drop-drop}
 use lib.Dec.{ltb}
 use borrow.Author.Tests.{lt-ltb, ltb-true}
 use Rattle.laws.specs.Below.{Below}
-use Rattle.laws.proofs.BelowLaws.{below-drop, below-more}
+use Rattle.laws.proofs.BelowLaws.{below-take, below-drop, below-more}
 use Rattle.laws.proofs.Mapped.{take-map, drop-map}
 use Rattle.refusal.specs.declared.Refusal.the-variants.{Pattern}
 use Rattle.refusal.specs.Outcome.{made}
@@ -19,16 +19,23 @@ use Rattle.parity.specs.declared.rows.Rows.the-variants.{FirstDigit}
 use Rattle.parity.specs.Letters.{inSets}
 use Rattle.parity.specs.Rows.{byFirstDigit}
 use Rattle.parity.proofs.LetterLaws.{digits-of-below, remainders-below}
-use Rattle.parity.proofs.RowLaws.{values-again}
+use Rattle.parity.proofs.RowLaws as Row
+use Rattle.parity.proofs.RowLaws.{InRow}
 use Rattle.ean_upc.specs.declared.tables.Sets.the-variants.{AOrB}
 use Rattle.ean_upc.specs.Halves.{halvesDrawn, halvesIn}
 use Rattle.ean_upc.proofs.HalvesLaws.{Halves, length-of-drawn, halves-of-drawn, drawn-of-halves, widths-below as halves-below}
 use Rattle.ean13.specs.Ean13.{symbol, firstOf, scanned}
-use Rattle.ean13.proofs.LeftHalf as Left
+
+pub left-half : (digits : List ℕ) → length digits ≡ 13 → Below 10 digits → InRow FirstDigit (getD digits 0 0) (take 6 (drop 1 digits))
+left-half digits long below =
+    record { ten = below 0 (omega arith); six = simp (length-take, length-drop) (omega arith); below = below-take 10 6 (drop 1 digits) (below-drop 10 1 digits below) }
 
 module _ (digits : List ℕ) (long : length digits ≡ 13) (below : Below 10 digits) where
+  abbrev half : InRow FirstDigit (getD digits 0 0) (take 6 (drop 1 digits))
+  half = left-half digits long below
+
   abbrev left : List ℕ
-  left = Left.left digits long below
+  left = Row.values half
 
   abbrev right : List ℕ
   right = drop 7 digits
@@ -38,20 +45,20 @@ module _ (digits : List ℕ) (long : length digits ≡ 13) (below : Below 10 dig
 
   pub length-of-symbol : length (symbol digits) ≡ 59
   unfolding symbol
-  length-of-symbol = length-of-drawn AOrB 6 left right (Left.six-values digits long below) right-long (Left.values-below digits long below) (below-drop 10 7 digits below)
+  length-of-symbol = length-of-drawn AOrB 6 left right (Row.six-values half) right-long (Row.values-below half) (below-drop 10 7 digits below)
 
   halves : halvesIn AOrB 6 (symbol digits) ≡ made (left ++ right)
   unfolding symbol
-  halves = halves-of-drawn AOrB 6 left right (Left.six-values digits long below) right-long (Left.values-below digits long below) (below-drop 10 7 digits below)
+  halves = halves-of-drawn AOrB 6 left right (Row.six-values half) right-long (Row.values-below half) (below-drop 10 7 digits below)
 
   first-scanned : firstOf (left ++ right) ≡ getD digits 0 0
   first-scanned =
-      ap (λ (half : List ℕ). valueIn byFirstDigit (map (λ v. v / 10) half)) (take-at left right 6 (Left.six-values digits long below))
-      ∙ Left.first-again digits long below
+      ap (λ (half : List ℕ). valueIn byFirstDigit (map (λ v. v / 10) half)) (take-at left right 6 (Row.six-values half))
+      ∙ Row.digit-again half
 
   digits-scanned : getD digits 0 0 ∷ map (λ v. v % 10) (left ++ right) ≡ digits
   digits-scanned =
-      let ones = map-append (λ v. v % 10) left right ∙ ap₂ (λ (front back : List ℕ). front ++ back) (Left.digits-again digits long below) (digits-of-below right (below-drop 10 7 digits below)) in
+      let ones = map-append (λ v. v % 10) left right ∙ ap₂ (λ (front back : List ℕ). front ++ back) (Row.digits-again half) (digits-of-below right (below-drop 10 7 digits below)) in
       ap (λ (rest : List ℕ). getD digits 0 0 ∷ rest) ones
       ∙ ap (λ (back : List ℕ). getD digits 0 0 ∷ (take 6 (drop 1 digits) ++ back)) (sym (drop-drop 6 1 digits))
       ∙ ap (λ (rest : List ℕ). getD digits 0 0 ∷ rest) (take-append-drop 6 (drop 1 digits))
@@ -59,7 +66,7 @@ module _ (digits : List ℕ) (long : length digits ≡ 13) (below : Below 10 dig
 
   pub scan-of-symbol : scanned (symbol digits) ≡ made digits
   unfolding scanned
-  scan-of-symbol = rw (halves, first-scanned, lt-ltb (getD digits 0 0) 10 (Left.first-below digits long below)) (ap made digits-scanned)
+  scan-of-symbol = rw (halves, first-scanned, lt-ltb (getD digits 0 0) 10 (half .ten)) (ap made digits-scanned)
 
 -- values that were scanned, and a first digit
 module _ (widths values : List ℕ) (known : Halves AOrB 6 widths values) (first-below : firstOf values < 10) where
@@ -67,7 +74,7 @@ module _ (widths values : List ℕ) (known : Halves AOrB 6 widths values) (first
   ones = map (λ v. v % 10) values
 
   left-drawn : inSets (getD byFirstDigit (firstOf values) []) (take 6 ones) ≡ take 6 values
-  left-drawn = ap (inSets (getD byFirstDigit (firstOf values) [])) (take-map (λ v. v % 10) 6 values) ∙ values-again FirstDigit (take 6 values) first-below
+  left-drawn = ap (inSets (getD byFirstDigit (firstOf values) [])) (take-map (λ v. v % 10) 6 values) ∙ Row.values-again FirstDigit (take 6 values) first-below
 
   known-symbol : (symbol (firstOf values ∷ ones) ≡ widths) × (length (firstOf values ∷ ones) ≡ 13) × Below 10 (firstOf values ∷ ones)
   unfolding symbol

@@ -1,4 +1,4 @@
--- The values of digits in sets A and B: letter and digit at each place, and both come back from the value.
+-- Values in sets A and B: letter and digit at each place, and both come back from the value.
 use Prim.Native.Nat.{ℕ, zero, suc, _+_, _*_, _/_, _%_, _<_}
 use mathlib.Core.Path.{_≡_, refl, ap, ap₂}
 use mathlib.Core.List.{List, [], _∷_, map}

@@ -39,7 +39,7 @@ module _ (rows : Rows) (digit : ℕ) (ten : digit < 10) where
   abbrev row : List ℕ
   row = getD (rowsOf rows) digit []
 
-  within : digit < length (rowsOf rows)
+  pub within : digit < length (rowsOf rows)
   within = rw (ten-rows rows) ten
 
   pub length-of-row : length row ≡ 6
@@ -48,26 +48,38 @@ module _ (rows : Rows) (digit : ℕ) (ten : digit < 10) where
   pub letters-of-row : Below 2 row
   letters-of-row = row-below 2 row (at-entry (λ (k : ℕ) (letters : List ℕ). small 2 letters) [] (rowsOf rows) (small-rows rows) digit within)
 
-  -- digits in the sets of the row
-  module _ (digits : List ℕ) (six : length digits ≡ 6) (below : Below 10 digits) where
-    abbrev values : List ℕ
-    values = inSets row digits
+-- six digits that a digit's row puts in sets A and B
+pub record InRow (rows : Rows) (digit : ℕ) (digits : List ℕ) : Type 0 where
+  pub ten : digit < 10
+  pub six : length digits ≡ 6
+  pub below : Below 10 digits
 
-    same-counts : length row ≡ length digits
-    same-counts = length-of-row ∙ sym six
+module _ {rows : Rows} {digit : ℕ} {digits : List ℕ} (r : InRow rows digit digits) where
+  abbrev letters : List ℕ
+  letters = getD (rowsOf rows) digit []
 
-    pub six-values : length values ≡ 6
-    six-values = Letter.length-in-sets row digits same-counts ∙ six
+  abbrev pub values : List ℕ
+  values = inSets letters digits
 
-    pub values-below : Below 20 values
-    values-below = Letter.in-sets-below row digits same-counts letters-of-row below
+  pub letters-below : Below 2 letters
+  letters-below = letters-of-row rows digit (r .ten)
 
-    pub digits-again : map (λ v. v % 10) values ≡ digits
-    digits-again = Letter.digits-again row digits same-counts below
+  same-counts : length letters ≡ length digits
+  same-counts = length-of-row rows digit (r .ten) ∙ sym (r .six)
 
-    pub digit-again : valueIn (rowsOf rows) (map (λ v. v / 10) values) ≡ digit
-    digit-again =
-        ap (valueIn (rowsOf rows)) (Letter.letters-again row digits same-counts below) ∙ value-at (rowsOf rows) (distinct-rows rows) digit within
+  pub six-values : length values ≡ 6
+  six-values = Letter.length-in-sets letters digits same-counts ∙ r .six
+
+  pub values-below : Below 20 values
+  values-below = Letter.in-sets-below letters digits same-counts letters-below (r .below)
+
+  pub digits-again : map (λ v. v % 10) values ≡ digits
+  digits-again = Letter.digits-again letters digits same-counts (r .below)
+
+  pub digit-again : valueIn (rowsOf rows) (map (λ v. v / 10) values) ≡ digit
+  digit-again =
+      ap (valueIn (rowsOf rows)) (Letter.letters-again letters digits same-counts (r .below))
+      ∙ value-at (rowsOf rows) (distinct-rows rows) digit (within rows digit (r .ten))
 
 -- and values whose letters are a row are their digits in its sets
 pub values-again : (rows : Rows) (values : List ℕ) → valueIn (rowsOf rows) (map (λ v. v / 10) values) < 10 → inSets (getD (rowsOf rows) (valueIn (rowsOf rows) (map (λ v. v / 10) values)) []) (map (λ v. v % 10) values) ≡ values

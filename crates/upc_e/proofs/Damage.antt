@@ -59,7 +59,7 @@ of-five P p q r s t (suc (suc (suc zero))) h = s
 of-five P p q r s t (suc (suc (suc (suc zero)))) h = t
 of-five P p q r s t (suc (suc (suc (suc (suc i))))) h = absurd (omega arith)
 
--- one of the first five digits stands at one place of the twelve
+-- one of the first five digits stands at one place of the twelve, which the rule tells
 abbrev StandsOnce : List ℕ → ℕ → ℕ → Type 0
 StandsOnce short x i = (place : ℕ) × (place < 12) × (getD (expanded short) place 0 ≡ getD short i 0) × (expanded (set short i x) ≡ set (expanded short) place x)
 
@@ -73,16 +73,37 @@ module _ (a b c d e last check x : ℕ) where
     where
       go : Rule last → (i : ℕ) → i < 5 → StandsOnce short x i
       go (upToTwo h) =
-          of-five (StandsOnce short x) (rw (le-leb last 2 h) (1, omega arith, refl, refl)) (rw (le-leb last 2 h) (2, omega arith, refl, refl)) (rw (le-leb last 2 h) (8, omega arith, refl, refl)) (rw (le-leb last 2 h) (9, omega arith, refl, refl)) (rw (le-leb last 2 h) (10, omega arith, refl, refl))
+          let two = le-leb last 2 h in
+          of-five (StandsOnce short x)
+          (rw two (1, omega arith, refl, refl))
+          (rw two (2, omega arith, refl, refl))
+          (rw two (8, omega arith, refl, refl))
+          (rw two (9, omega arith, refl, refl))
+          (rw two (10, omega arith, refl, refl))
       go (three h) =
-          of-five (StandsOnce short x) (rw (h) (1, omega arith, refl, refl)) (rw (h) (2, omega arith, refl, refl)) (rw (h) (3, omega arith, refl, refl)) (rw (h) (9, omega arith, refl, refl)) (rw (h) (10, omega arith, refl, refl))
+          of-five (StandsOnce short x)
+          (rw h (1, omega arith, refl, refl))
+          (rw h (2, omega arith, refl, refl))
+          (rw h (3, omega arith, refl, refl))
+          (rw h (9, omega arith, refl, refl))
+          (rw h (10, omega arith, refl, refl))
       go (four h) =
-          of-five (StandsOnce short x) (rw (h) (1, omega arith, refl, refl)) (rw (h) (2, omega arith, refl, refl)) (rw (h) (3, omega arith, refl, refl)) (rw (h) (4, omega arith, refl, refl)) (rw (h) (10, omega arith, refl, refl))
+          of-five (StandsOnce short x)
+          (rw h (1, omega arith, refl, refl))
+          (rw h (2, omega arith, refl, refl))
+          (rw h (3, omega arith, refl, refl))
+          (rw h (4, omega arith, refl, refl))
+          (rw h (10, omega arith, refl, refl))
       go (fromFive h) =
-          let two = lt-leb last 2 (omega arith) in
+          let not-two = lt-leb last 2 (omega arith) in
           let not-three = ne-eqb last 3 (λ is. omega arith) in
           let not-four = ne-eqb last 4 (λ is. omega arith) in
-          of-five (StandsOnce short x) (rw (two, not-three, not-four) (1, omega arith, refl, refl)) (rw (two, not-three, not-four) (2, omega arith, refl, refl)) (rw (two, not-three, not-four) (3, omega arith, refl, refl)) (rw (two, not-three, not-four) (4, omega arith, refl, refl)) (rw (two, not-three, not-four) (5, omega arith, refl, refl))
+          of-five (StandsOnce short x)
+          (rw (not-two, not-three, not-four) (1, omega arith, refl, refl))
+          (rw (not-two, not-three, not-four) (2, omega arith, refl, refl))
+          (rw (not-two, not-three, not-four) (3, omega arith, refl, refl))
+          (rw (not-two, not-three, not-four) (4, omega arith, refl, refl))
+          (rw (not-two, not-three, not-four) (5, omega arith, refl, refl))
 
 -- of a short number that is right, with one of its first five digits replaced
 wrong-digit : (short : List ℕ) → length short ≡ 7 → Below 10 short → isRight (expanded short) ≡ true → (i x : ℕ) → i < 5 → x < 10 → x ≢ getD short i 0 → isRight (expanded (set short i x)) ≡ false

@@ -2,7 +2,6 @@
 --
 --   CondensingLaws   what is condensed stands for the digits that it came from; where a rule fits
 --   FalseSymbols     which short numbers are not their own
---   Printed          the printed digits in the sets of the check digit's row
 --   SymbolLaws       the scan and the symbol undo one another
 --   Theorems         the same of the calls' rules, and what follows
 --   AsEan13          what is read, with a 0 before it, is a right number of thirteen digits
@@ -10,7 +9,6 @@
 --   EdgeUnseen       a moved edge that no reader can see
 pub mod CondensingLaws
 pub mod FalseSymbols
-pub mod Printed
 pub mod SymbolLaws
 pub mod Theorems
 pub mod AsEan13

@@ -4,13 +4,13 @@ use Prim.Native.Nat.{ℕ, _+_, _*_, _%_, _<_}
 use mathlib.Core.Path.{_≡_, sym, ap, ap₂, _∙_, subst}
 use mathlib.Core.List.{List, [], _∷_, _++_, map}
 use native.Mathlib.Omega.{arith}
-use lib.ListN.{length, getD, length-append, length-map}
+use lib.ListN.{length, getD, take, length-take, length-append, length-map}
 use lib.Seq.{take-at, take-all, take-suc, getD-at}
 use lib.Dec.{ltb}
 use borrow.Author.Tests.{lt-ltb, ltb-true}
 use Rattle.laws.specs.Below.{Below}
 use Rattle.laws.specs.Sum.{sum}
-use Rattle.laws.proofs.BelowLaws.{below-append, below-last}
+use Rattle.laws.proofs.BelowLaws.{below-take, below-append, below-last}
 use Rattle.laws.proofs.SumLaws.{sum-of-append}
 use Rattle.refusal.specs.declared.Refusal.the-variants.{Pattern}
 use Rattle.refusal.specs.Outcome.{made}
@@ -25,12 +25,12 @@ use Rattle.parity.specs.Letters.{inSets}
 use Rattle.parity.specs.Rows.{byCheckDigit}
 use Rattle.parity.proofs.LetterLaws.{remainders-below}
 use Rattle.parity.proofs.RowLaws as Row
+use Rattle.parity.proofs.RowLaws.{InRow}
 use Rattle.ean_upc.specs.declared.tables.Sets.the-variants.{AOrB}
 use Rattle.ean_upc.specs.Tables.{guard}
 use Rattle.ean_upc.specs.Halves.{patternsOf}
 use Rattle.ean_upc.proofs.SetLaws.{distinct-sets, sized-sets}
 use Rattle.upc_e.specs.UpcE.{endGuard, framed, valuesIn, symbol, checkFrom, scanned}
-use Rattle.upc_e.proofs.Printed as Printed
 
 -- six values between the guards
 module _ (values : List ℕ) (six : length values ≡ 6) (below : Below 20 values) where
@@ -53,26 +53,33 @@ module _ (values : List ℕ) (six : length values ≡ 6) (below : Below 20 value
 pub framed-of-values : (widths values : List ℕ) → valuesIn widths ≡ made values → (framed values ≡ widths) × (length values ≡ 6) × Below 20 values
 framed-of-values widths values e = drawn-of-between guard endGuard (patternsOf AOrB) 4 6 widths values e
 
+-- the printed digits stand in the sets of the check digit's row
+pub printed : (short : List ℕ) → length short ≡ 7 → Below 10 short → InRow CheckDigit (getD short 6 0) (take 6 short)
+printed short long below = record { ten = below 6 (omega arith); six = simp length-take (omega arith); below = below-take 10 6 short below }
+
 module _ (short : List ℕ) (long : length short ≡ 7) (below : Below 10 short) where
+  abbrev six : InRow CheckDigit (getD short 6 0) (take 6 short)
+  six = printed short long below
+
   abbrev values : List ℕ
-  values = Printed.values short long below
+  values = Row.values six
 
   pub length-of-symbol : length (symbol short) ≡ 33
   unfolding symbol
-  length-of-symbol = length-of-framed values (Printed.six-values short long below) (Printed.values-below short long below)
+  length-of-symbol = length-of-framed values (Row.six-values six) (Row.values-below six)
 
   pub sum-of-symbol : sum (symbol short) ≡ 51
   unfolding symbol
-  sum-of-symbol = sum-of-framed values (Printed.six-values short long below) (Printed.values-below short long below)
+  sum-of-symbol = sum-of-framed values (Row.six-values six) (Row.values-below six)
 
   short-again : map (λ v. v % 10) values ++ (getD short 6 0 ∷ []) ≡ short
   short-again =
-      ap (λ (digits : List ℕ). digits ++ (getD short 6 0 ∷ [])) (Printed.digits-again short long below) ∙ sym (take-suc short 6 0 (omega arith)) ∙ take-all 7 short (omega arith)
+      ap (λ (digits : List ℕ). digits ++ (getD short 6 0 ∷ [])) (Row.digits-again six) ∙ sym (take-suc short 6 0 (omega arith)) ∙ take-all 7 short (omega arith)
 
   pub scan-of-symbol : scanned (symbol short) ≡ made short
   unfolding scanned symbol
   scan-of-symbol =
-      rw (values-of-framed values (Printed.six-values short long below) (Printed.values-below short long below), Printed.check-again short long below, lt-ltb (getD short 6 0) 10 (Printed.check-below short long below))
+      rw (values-of-framed values (Row.six-values six) (Row.values-below six), Row.digit-again six, lt-ltb (getD short 6 0) 10 (six .ten))
       (ap made short-again)
 
 -- values that were scanned, and a check digit

@@ -10,11 +10,12 @@ use Rattle.laws.specs.Below.{Below}
 use Rattle.laws.proofs.BelowLaws.{below-take, below-drop}
 use Rattle.parity.specs.declared.rows.Rows.the-variants.{FirstDigit}
 use Rattle.parity.specs.Letters.{inSets}
-use Rattle.parity.proofs.RowLaws.{letters-of-row}
+use Rattle.parity.proofs.RowLaws as Row
+use Rattle.parity.proofs.RowLaws.{InRow}
 use Rattle.ean_upc.specs.declared.tables.Sets.the-variants.{AOrB}
 use Rattle.ean_upc.specs.Halves.{halvesDrawn}
 use Rattle.ean13.specs.Ean13.{symbol}
-use Rattle.ean13.proofs.LeftHalf as Left
+use Rattle.ean13.proofs.SymbolLaws.{left-half}
 use Rattle.ean13.proofs.stages.symbol.Statement.{statement}
 use Rattle.ean13.proofs.stages.symbol.Tie as tie
 
@@ -23,21 +24,17 @@ module _ (c : tie.Start) where
   abbrev digits : List ℕ
   digits = c .args .digits .now
 
-  abbrev long : length digits ≡ 13
-  long = c .pre .0
-
   abbrev below : Below 10 digits
   below = c .pre .1
 
-  first-below : getD digits 0 0 < 10
-  first-below = Left.first-below digits long below
+  abbrev half : InRow FirstDigit (getD digits 0 0) (take 6 (drop 1 digits))
+  half = left-half digits (c .pre .0) below
 
 in-sets-requires : tie.Need-in-sets-requires
 in-sets-requires c κs =
     let row = c .before in
-    let start = row .before .before .before in
-    let letters = letters-of-row FirstDigit (getD (digits start) 0 0) (first-below start) in
-    (rw (row .row-of .ensures) letters, (Left.length-of-left (digits start) (long start) (below start), Left.left-digits-below (digits start) (long start) (below start)))
+    let left = half (row .before .before .before) in
+    (rw (row .row-of .ensures) (Row.letters-below left), (left .six, left .below))
 
 -- the values of the left half
 module _ (c : tie.After-in-sets) where
@@ -47,18 +44,17 @@ module _ (c : tie.After-in-sets) where
   abbrev start : tie.Start
   start = row .before .before .before
 
-  left-is : c .in-sets .result ≡ Left.left (digits start) (long start) (below start)
+  left-is : c .in-sets .result ≡ Row.values (half start)
   left-is = c .in-sets .ensures ∙ ap (λ (letters : List ℕ). inSets letters (take 6 (drop 1 (digits start)))) (row .row-of .ensures)
 
 halves-requires : tie.Need-halves-requires
 halves-requires c κs =
     let left = c .before .before .before in
     let ds = digits (start left) in
-    let ten = below (start left) in
-    let six = Left.six-values ds (long (start left)) ten in
+    let six = Row.six-values (half (start left)) in
     rw (left-is left) (
       simp (length-take, length-drop) (omega arith),
-      (Left.values-below ds (long (start left)) ten, below-take 10 (length ds - 7) (drop 7 ds) (below-drop 10 7 ds ten)),
+      (Row.values-below (half (start left)), below-take 10 (length ds - 7) (drop 7 ds) (below-drop 10 7 ds (below (start left)))),
     )
 
 returns : tie.Need-returns
@@ -74,8 +70,8 @@ symbol-spec =
     tie.close
     (tie.spec
     (λ c. search needs)
-    (λ c. omega (arith, first-below (c .before .before)))
-    (λ c κs. first-below (c .before .before))
+    (λ c. omega (arith, half (c .before .before) .ten))
+    (λ c κs. half (c .before .before) .ten)
     (λ c. search needs)
     (λ c. search needs)
     (λ c. search needs)

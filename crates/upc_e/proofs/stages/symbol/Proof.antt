@@ -12,13 +12,14 @@ use Rattle.refusal.proofs.FillsLaws.{laid-whole}
 use Rattle.patterns.specs.Patterns.{drawn}
 use Rattle.parity.specs.declared.rows.Rows.the-variants.{CheckDigit}
 use Rattle.parity.specs.Letters.{inSets}
-use Rattle.parity.proofs.RowLaws.{letters-of-row}
+use Rattle.parity.proofs.RowLaws as Row
+use Rattle.parity.proofs.RowLaws.{InRow}
 use Rattle.ean_upc.specs.declared.tables.Sets.the-variants.{AOrB}
 use Rattle.ean_upc.specs.Tables.{guard}
 use Rattle.ean_upc.specs.Halves.{patternsOf}
 use Rattle.ean_upc.proofs.SetLaws.{length-of-half}
 use Rattle.upc_e.specs.UpcE.{endGuard, symbol}
-use Rattle.upc_e.proofs.Printed as Stage
+use Rattle.upc_e.proofs.SymbolLaws.{printed}
 use Rattle.upc_e.proofs.stages.symbol.Statement.{statement}
 use Rattle.upc_e.proofs.stages.symbol.Tie as tie
 
@@ -27,27 +28,20 @@ module _ (c : tie.Start) where
   abbrev short : List ℕ
   short = c .args .short .now
 
-  abbrev long : length short ≡ 7
-  long = c .pre .0
-
-  abbrev below : Below 10 short
-  below = c .pre .1
-
-  check-below : getD short 6 0 < 10
-  check-below = Stage.check-below short long below
+  abbrev digits : InRow CheckDigit (getD short 6 0) (take 6 short)
+  digits = printed short (c .pre .0) (c .pre .1)
 
 cast-row-of : tie.Need-cast-row-of
-cast-row-of c = omega (arith, check-below (c .before .before))
+cast-row-of c = omega (arith, digits (c .before .before) .ten)
 
 row-of-requires : tie.Need-row-of-requires
-row-of-requires c κs = check-below (c .before .before)
+row-of-requires c κs = digits (c .before .before) .ten
 
 in-sets-requires : tie.Need-in-sets-requires
 in-sets-requires c κs =
     let row = c .before in
-    let start = row .before .before .before in
-    let letters = letters-of-row CheckDigit (getD (short start) 6 0) (check-below start) in
-    (rw (row .row-of .ensures) letters, (Stage.six-printed (short start) (long start) (below start), Stage.printed-below (short start) (long start) (below start)))
+    let six = digits (row .before .before .before) in
+    (rw (row .row-of .ensures) (Row.letters-below six), (six .six, six .below))
 
 -- the values of the characters
 module _ (c : tie.After-in-sets) where
@@ -58,16 +52,16 @@ module _ (c : tie.After-in-sets) where
   start = row .before .before .before
 
   abbrev values : List ℕ
-  values = Stage.values (short start) (long start) (below start)
+  values = Row.values (digits start)
 
   values-are : c .in-sets .result ≡ values
   values-are = c .in-sets .ensures ∙ ap (λ (letters : List ℕ). inSets letters (take 6 (short start))) (row .row-of .ensures)
 
   six : length values ≡ 6
-  six = Stage.six-values (short start) (long start) (below start)
+  six = Row.six-values (digits start)
 
   values-below : Below 20 values
-  values-below = Stage.values-below (short start) (long start) (below start)
+  values-below = Row.values-below (digits start)
 
 guarded-half-requires : tie.Need-guarded-half-requires
 guarded-half-requires c κs = let at = c .before .before .before in rw (values-are at) (omega (arith, six at), values-below at)
