@@ -2,7 +2,7 @@
 -- leave a wrong check or count; a changed width leaves a character that doesn't sum to 11; so does an edge between two characters, and one
 -- within a character replaces it.
 use Prim.Native.Nat.{ℕ, suc, _+_, _-_, _/_, _%_, _≤_, _<_}
-use mathlib.Core.Path.{_≡_, refl, sym, ap, _∙_}
+use mathlib.Core.Path.{_≡_, sym, ap, _∙_}
 use mathlib.Core.Logic.{_≢_, _⊎_, inl, inr}
 use mathlib.Core.List.{List, [], _∷_, _++_}
 use native.Mathlib.Decide.{decLt, ℕ-discrete}
@@ -13,7 +13,8 @@ use Rattle.laws.specs.Below.{Below}
 use Rattle.laws.proofs.BelowLaws.{below-set, below-exchanged}
 use Rattle.laws.specs.Exchanged.{exchanged}
 use Rattle.refusal.specs.declared.Refusal.{Refusal}
-use Rattle.refusal.specs.Outcome.{Outcome, made, refused}
+use Rattle.refusal.specs.Outcome.{refused}
+use Rattle.refusal.proofs.OutcomeLaws.{refused-unless-made}
 use Rattle.patterns.specs.Patterns.{drawn}
 use Rattle.code128.specs.Characters.{patterns, stop}
 use Rattle.gs1_128.specs.Rules.{messageIn, reads}
@@ -111,16 +112,10 @@ damaged-is-none s (width-changed i x h other) message′ s′ = changed-is-none 
 
 -- .. so no message is found in it, ..
 pub damaged-is-refused : {widths message damaged : List ℕ} (s : IsSymbol widths message) → Damaged s damaged → (f : Refusal) × (messageIn damaged ≡ refused f)
-damaged-is-refused {damaged = damaged} s d = go (messageIn damaged) refl
-  where
-    go : (o : Outcome (List ℕ)) → messageIn damaged ≡ o → (f : Refusal) × (messageIn damaged ≡ refused f)
-    go (made message′) e = absurd (damaged-is-none s d message′ (read-as-symbol damaged message′ .0 e))
-    go (refused f) e = (f, e)
+damaged-is-refused {damaged = damaged} s d =
+    refused-unless-made (messageIn damaged) (λ message′ e. damaged-is-none s d message′ (read-as-symbol damaged message′ .0 e))
 
 -- .. and the call refuses it, whatever room it is lent
 pub call-refuses-damaged : {widths message damaged : List ℕ} (s : IsSymbol widths message) → Damaged s damaged → (room : ℕ) → (f : Refusal) × (reads damaged room ≡ refused f)
-call-refuses-damaged {damaged = damaged} s d room = go (reads damaged room) refl
-  where
-    go : (o : Outcome (List ℕ)) → reads damaged room ≡ o → (f : Refusal) × (reads damaged room ≡ refused f)
-    go (made message′) e = absurd (damaged-is-none s d message′ (call-reads-symbol damaged message′ room .0 e .0))
-    go (refused f) e = (f, e)
+call-refuses-damaged {damaged = damaged} s d room =
+    refused-unless-made (reads damaged room) (λ message′ e. damaged-is-none s d message′ (call-reads-symbol damaged message′ room .0 e .0))

@@ -1,13 +1,13 @@
 -- Theorem 6 for an unnamed list: a right GS1-128 symbol that was damaged once is read as no kind. Its count is never that of an EAN-13, a
 -- UPC-E or an ITF-14; where it is named an EAN-8, its first width has become 1 and its last is still 2, so that the guard at the end is wrong.
 use Prim.Native.Nat.{ℕ}
-use mathlib.Core.Path.{_≡_, refl, sym, _∙_}
+use mathlib.Core.Path.{_≡_, sym, _∙_}
 use mathlib.Core.List.{List}
 use lib.ListN.{length}
 use borrow.Author.Tests.{eqb-true}
 use Rattle.refusal.specs.declared.Refusal.{Refusal}
-use Rattle.refusal.specs.Outcome.{Outcome, made, refused}
-use Rattle.refusal.proofs.OutcomeLaws.{made-not-refused}
+use Rattle.refusal.specs.Outcome.{made, refused}
+use Rattle.refusal.proofs.OutcomeLaws.{made-not-refused, refused-unless-made}
 use Rattle.gs1_128.specs.Right.{IsSymbol}
 use Rattle.damage.specs.Damage.{Damaged}
 use Rattle.damage.proofs.Damage.{call-refuses-damaged}
@@ -33,8 +33,5 @@ module _ {widths message damaged : List ℕ} (s : IsSymbol widths message) (d : 
       made-not-refused bytes (refusal .0) (sym e ∙ refusal .1)
 
   pub unnamed-refuses-damaged : (f : Refusal) × (reads damaged room ≡ refused f)
-  unnamed-refuses-damaged = go (reads damaged room) refl
-    where
-      go : (o : Outcome (Kind × List ℕ)) → reads damaged room ≡ o → (f : Refusal) × (reads damaged room ≡ refused f)
-      go (made read) e = absurd (no-kind-reads (read .0) (read .1) (read-exactly-as-kind damaged room (read .0) (read .1) .0 e))
-      go (refused f) e = (f, e)
+  unnamed-refuses-damaged =
+      refused-unless-made (reads damaged room) (λ read e. no-kind-reads (read .0) (read .1) (read-exactly-as-kind damaged room (read .0) (read .1) .0 e))

@@ -11,7 +11,7 @@ use lib.Dec.{T, eqb, ltb, leb·suc-suc}
 use borrow.Author.Tests.{lt-ltb, eq-eqb, ne-eqb, eqb-true}
 use types.Run.{OneOf}
 use Rattle.laws.specs.First.{firstNot}
-use Rattle.laws.proofs.Booleans.{both-hold}
+use Rattle.laws.proofs.Booleans.{both-hold, fails-unless}
 use Rattle.laws.proofs.Tables.{every, at-entry}
 use Rattle.laws.specs.Run.{run}
 use Rattle.laws.specs.Among.{placeIn, among}
@@ -95,8 +95,5 @@ all-among test (y ∷ ys) t x e = go (eqb y x) refl (rw (among-more y ys x) at e
     go false p e later = later e
 
 pub not-among-if : (test : ℕ → Bool) (xs : List ℕ) → all test xs ≡ true → (x : ℕ) → test x ≡ false → among xs x ≡ false
-not-among-if test xs t x fails = go (among xs x) refl
-  where
-    go : (b : Bool) → among xs x ≡ b → b ≡ false
-    go true e = absurd (let passes = all-among test xs t x e in let z : _≡_ {A = ℕ} 0 1 = cc in omega arith)
-    go false e = refl
+not-among-if test xs t x fails =
+    fails-unless (among xs x) (λ e. let passes = all-among test xs t x e in let z : _≡_ {A = ℕ} 0 1 = cc in omega arith)

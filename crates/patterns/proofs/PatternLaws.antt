@@ -8,7 +8,7 @@ use native.Mathlib.Omega.{arith}
 use lib.ListN.{length, getD}
 use lib.Dec.{T, eqb, eqb→eq}
 use borrow.Author.Tests.{eqb-true, eq-eqb, not-false}
-use Rattle.laws.proofs.Booleans.{both-hold}
+use Rattle.laws.proofs.Booleans.{both-hold, fails-unless}
 use Rattle.laws.proofs.FirstLaws.{first-within, first-fails, pass-all}
 use Rattle.laws.proofs.Tables.{every, at-entry}
 use Rattle.patterns.specs.Patterns.{same, valueIn}
@@ -31,11 +31,7 @@ pub same-false : (xs ys : List ℕ) → same xs ys ≡ false → xs ≡ ys → �
 same-false xs ys e p = let t : same xs ys ≡ true = ap (same xs) (sym p) ∙ same-refl xs in let z : _≡_ {A = ℕ} 0 1 = cc in omega arith
 
 pub differs : (xs ys : List ℕ) → (xs ≡ ys → ⊥) → same xs ys ≡ false
-differs xs ys h = go (same xs ys) refl
-  where
-    go : (b : Bool) → same xs ys ≡ b → b ≡ false
-    go true e = absurd (h (same-true xs ys e))
-    go false e = refl
+differs xs ys h = fails-unless (same xs ys) (λ e. h (same-true xs ys e))
 
 pub value-within : (patterns : List (List ℕ)) (widths : List ℕ) → valueIn patterns widths ≤ length patterns
 unfolding valueIn

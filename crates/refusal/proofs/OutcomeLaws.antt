@@ -1,4 +1,4 @@
--- A rule read backwards: where it made something, every line of it passed.
+-- A rule read backwards: where it made something, every line of it passed; and where it makes nothing, some line refuses.
 use Prim.Native.Nat.{ℕ}
 use mathlib.Core.Path.{_≡_, refl}
 use mathlib.Core.Bool.{Bool, true, false}
@@ -12,6 +12,11 @@ module _ {A : Type 0} where
 
   pub made-same : (x y : A) → made x ≡ made y → x ≡ y
   made-same x y e = cc
+
+  -- a rule that makes nothing refuses
+  pub refused-unless-made : (o : Outcome A) → ((x : A) → o ≡ made x → ⊥) → (f : Refusal) × (o ≡ refused f)
+  refused-unless-made (made x) never = absurd (never x refl)
+  refused-unless-made (refused f) never = (f, refl)
 
   pub must-made : (test : Bool) (f : Refusal) (rest : Outcome A) (x : A) → (must test f >> rest) ≡ made x → (test ≡ true) × (rest ≡ made x)
   must-made true f rest x e = (refl, e)

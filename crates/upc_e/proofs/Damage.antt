@@ -15,14 +15,15 @@ use Rattle.laws.specs.Below.{Below}
 use Rattle.laws.specs.First.{firstNot}
 use Rattle.laws.specs.Sum.{sum}
 use Rattle.laws.proofs.BelowLaws.{below-set}
+use Rattle.laws.proofs.Booleans.{fails-unless}
 use Rattle.laws.proofs.Listed.{listed-whole}
 use Rattle.laws.proofs.Mapped.{set-map}
 use Rattle.laws.proofs.SumLaws.{sum-of-set}
 use Rattle.laws.proofs.Tables.{every, at-entry}
 use Rattle.refusal.specs.declared.Refusal.{Refusal}
 use Rattle.refusal.specs.declared.Refusal.the-variants.{CheckDigit, Pattern}
-use Rattle.refusal.specs.Outcome.{Outcome, made, refused}
-use Rattle.refusal.proofs.OutcomeLaws.{made-same, must-made}
+use Rattle.refusal.specs.Outcome.{made, refused}
+use Rattle.refusal.proofs.OutcomeLaws.{made-same, must-made, refused-unless-made}
 use Rattle.patterns.specs.Patterns.{same, valueIn}
 use Rattle.patterns.proofs.PatternLaws.{pattern-at}
 use Rattle.parity.specs.declared.rows.Rows.the-variants.{CheckDigit as ByCheckDigit}
@@ -44,12 +45,9 @@ sum-of-read widths number room e =
 
 -- one width changed
 pub width-is-seen : (widths number : List ℕ) (room : ℕ) → reads widths room ≡ made number → (i x : ℕ) → i < length widths → x ≢ getD widths i 0 → (room′ : ℕ) → (f : Refusal) × (reads (set widths i x) room′ ≡ refused f)
-width-is-seen widths number room e i x h other room′ = go (reads (set widths i x) room′) refl
-  where
-    go : (o : Outcome (List ℕ)) → reads (set widths i x) room′ ≡ o → (f : Refusal) × (reads (set widths i x) room′ ≡ refused f)
-    go (made again) e′ =
-        absurd (other (omega (arith, sum-of-set widths i x h, sum-of-read widths number room e, sum-of-read (set widths i x) again room′ e′)))
-    go (refused f) e′ = (f, e′)
+width-is-seen widths number room e i x h other room′ =
+    refused-unless-made (reads (set widths i x) room′)
+    (λ again e′. other (omega (arith, sum-of-set widths i x h, sum-of-read widths number room e, sum-of-read (set widths i x) again room′ e′)))
 
 of-five : (P : ℕ → Type 0) → P 0 → P 1 → P 2 → P 3 → P 4 → (i : ℕ) → i < 5 → P i
 of-five P p q r s t zero h = p
@@ -107,20 +105,17 @@ module _ (a b c d e last check x : ℕ) where
 
 -- of a short number that is right, with one of its first five digits replaced
 wrong-digit : (short : List ℕ) → length short ≡ 7 → Below 10 short → isRight (expanded short) ≡ true → (i x : ℕ) → i < 5 → x < 10 → x ≢ getD short i 0 → isRight (expanded (set short i x)) ≡ false
-wrong-digit short long below right i x h ten other = go (isRight (expanded (set short i x))) refl
+wrong-digit short long below right i x h ten other =
+    fails-unless (isRight (expanded (set short i x)))
+    (λ e.
+    let old : getD short i 0 < 10 = below i (omega arith) in
+    change-is-seen (expanded short) (once .0) x right (rw (length-of-expanded short) (once .1)) (rw (once .2) old) ten (λ same. other (same ∙ once .2))
+    (ap isRight (sym (once .3)) ∙ e))
   where
     once : StandsOnce short x i
     once =
         subst (λ (s : List ℕ). StandsOnce s x i) (listed-whole 7 short long)
         (stands-once (getD short 0 0) (getD short 1 0) (getD short 2 0) (getD short 3 0) (getD short 4 0) (getD short 5 0) (getD short 6 0) x i h)
-
-    go : (b : Bool) → isRight (expanded (set short i x)) ≡ b → b ≡ false
-    go true e =
-        let old : getD short i 0 < 10 = below i (omega arith) in
-        absurd
-        (change-is-seen (expanded short) (once .0) x right (rw (length-of-expanded short) (once .1)) (rw (once .2) old) ten (λ same. other (same ∙ once .2))
-        (ap isRight (sym (once .3)) ∙ e))
-    go false e = refl
 
 -- a row of letters with one of them exchanged is none of the rows: a test computed over the rows and their letters
 abbrev isNoRow : List ℕ → ℕ → ℕ → Bool

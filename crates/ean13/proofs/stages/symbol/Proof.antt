@@ -1,5 +1,5 @@
 -- `ean13::stages::symbol` meets its contract: the left half's values are those of the first digit's row, and the halves are the rule's.
-use Prim.Native.Nat.{ℕ, _-_, _<_}
+use Prim.Native.Nat.{ℕ, _-_}
 use mathlib.Core.Path.{_≡_, ap, ap₂, _∙_}
 use mathlib.Core.List.{List}
 use native.Mathlib.Omega.{arith}

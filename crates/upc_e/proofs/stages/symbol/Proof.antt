@@ -1,6 +1,6 @@
 -- `upc_e::stages::symbol` meets its contract: the values are those of the check digit's row, drawn after the guard, and the end guard fills what
 -- is left.
-use Prim.Native.Nat.{ℕ, _<_}
+use Prim.Native.Nat.{ℕ}
 use mathlib.Core.Path.{_≡_, ap, ap₂, _∙_}
 use mathlib.Core.List.{List, _++_}
 use native.Mathlib.Omega.{arith}
