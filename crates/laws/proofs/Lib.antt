@@ -2,7 +2,7 @@
 --
 --   AmongLaws      whether a number is among others, and among those of a run
 --   BelowLaws      lists whose elements are all below a bound
---   Booleans       tests joined by "and"
+--   Booleans       tests joined by "and", and those that can't hold
 --   Copying        a loop that copies, and a part that is lent on and written whole
 --   ExchangedLaws  two neighbours of a list exchanged
 --   FirstChanged   a list whose every element passes a test, changed

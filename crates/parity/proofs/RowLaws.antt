@@ -39,7 +39,7 @@ module _ (rows : Rows) (digit : ℕ) (ten : digit < 10) where
   abbrev row : List ℕ
   row = getD (rowsOf rows) digit []
 
-  pub within : digit < length (rowsOf rows)
+  within : digit < length (rowsOf rows)
   within = rw (ten-rows rows) ten
 
   pub length-of-row : length row ≡ 6

@@ -6,9 +6,9 @@ ghost use lib.ListN.{length};
 ghost use Rattle.laws.specs.Below.{Below};
 ghost use Rattle.parity.specs.Letters.{inSets};
 
-pub const A: u8 = 0;
+pub(crate) const A: u8 = 0;
 
-pub const B: u8 = 1;
+pub(crate) const B: u8 = 1;
 
 // The values of six digits, each in the set that its letter names.
 pub fn in_sets(letters: [u8; 6], digits: &[u8]) -> [u8; 6]
@@ -27,7 +27,7 @@ pub fn in_sets(letters: [u8; 6], digits: &[u8]) -> [u8; 6]
 }
 
 // The letter of each of six values.
-pub fn letters_of(values: &[u8]) -> [u8; 6]
+pub(crate) fn letters_of(values: &[u8]) -> [u8; 6]
     requires { ⌜ length (now values) ≡ 6 ⌝ }
     ensures { λ r. ⌜ r ≡ map (λ v. v / 10) (now (values .entry)) ⌝ }
 {

@@ -151,7 +151,7 @@ left-listed short =
     (λ h. (2, omega arith, rw h))
     (λ h. (3, omega arith, refl))
 
-pub left-again : (short : List ℕ) → length short ≡ 7 → (k : ℕ) × (k < 4) × (getD (shorts (expanded short)) k [] ≡ short)
+left-again : (short : List ℕ) → length short ≡ 7 → (k : ℕ) × (k < 4) × (getD (shorts (expanded short)) k [] ≡ short)
 left-again short long = let left = left-listed short in (left .0, left .1, left .2 ∙ listed-whole 7 short long)
 
 -- twelve digits are condensed exactly where some seven stand for them: 14 in writing means that no rule fits, in whatever order they are tried

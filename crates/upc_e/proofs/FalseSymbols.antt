@@ -45,7 +45,7 @@ module _ (a b c d e last check : ℕ) where
   abbrev short : List ℕ
   short = a ∷ b ∷ c ∷ d ∷ e ∷ last ∷ check ∷ []
 
-  -- the request's words on false symbols, digit by digit
+  -- the false ones, by their digits
   abbrev pub False : Type 0
   False = ((last ≡ 3) × (c ≤ 2)) ⊎ (((last ≡ 4) × (d ≡ 0)) ⊎ ((5 ≤ last) × (e ≡ 0)))
 
@@ -61,7 +61,7 @@ module _ (a b c d e last check : ℕ) where
   first-not : (i j : ℕ) (digits : List ℕ) → getD digits 3 0 ≡ c → (c ≤ 2 → 0 ∷ a ∷ b ∷ c ∷ 0 ∷ 0 ∷ 0 ∷ 0 ∷ 0 ∷ i ∷ j ∷ check ∷ [] ≡ digits → ⊥) → expanded (a ∷ b ∷ 0 ∷ i ∷ j ∷ c ∷ check ∷ []) ≡ digits → ⊥
   first-not i j digits third two =
       of-expanded (λ (whole : List ℕ). whole ≡ digits → ⊥) (a ∷ b ∷ 0 ∷ i ∷ j ∷ c ∷ check ∷ [])
-      (λ h is. two h is)
+      two
       (λ h is. omega (arith, at 3 is))
       (λ h is. omega (arith, at 3 is))
       (λ h is. omega (arith, at 3 is))

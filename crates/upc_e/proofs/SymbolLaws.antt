@@ -39,11 +39,11 @@ module _ (values : List ℕ) (six : length values ≡ 6) (below : Below 20 value
       subst (λ (n : ℕ). between guard endGuard (patternsOf AOrB) 4 n (framed values) ≡ made values) six
       (between-of-drawn guard endGuard (patternsOf AOrB) 4 (sized-sets AOrB) values below (distinct-sets AOrB))
 
-  pub length-of-framed : length (framed values) ≡ 33
+  length-of-framed : length (framed values) ≡ 33
   length-of-framed = length-between guard endGuard (patternsOf AOrB) 4 (sized-sets AOrB) values below ∙ ap (λ (n : ℕ). 3 + 4 * n + 6) six
 
   -- every character has seven modules, and the guards nine
-  pub sum-of-framed : sum (framed values) ≡ 51
+  sum-of-framed : sum (framed values) ≡ 51
   unfolding sum
   sum-of-framed =
       sum-of-append (guard ++ drawn (patternsOf AOrB) values) endGuard

@@ -22,12 +22,12 @@ use Rattle.upc_e.proofs.FalseSymbols.{own-exactly}
 use Rattle.upc_e.proofs.SymbolLaws as Symbol
 
 -- what is known of a number that was written: it is right, and condensed to what was drawn
-pub record Written (number widths short : List ℕ) : Type 0 where
-  pub right : RightNumber 12 number (map valueOf number)
-  pub condenses : condensed (map valueOf number) ≡ made short
-  pub drawn : symbol short ≡ widths
+record Written (number widths short : List ℕ) : Type 0 where
+  right : RightNumber 12 number (map valueOf number)
+  condenses : condensed (map valueOf number) ≡ made short
+  drawn : symbol short ≡ widths
 
-pub written : (number widths : List ℕ) (room : ℕ) → writes number room ≡ made widths → (short : List ℕ) × Written number widths short
+written : (number widths : List ℕ) (room : ℕ) → writes number room ≡ made widths → (short : List ℕ) × Written number widths short
 unfolding writes
 written number widths room e =
     let d = bind-made (rightNumber 12 number) _ widths e in

@@ -1,7 +1,6 @@
 -- `upc_e::condensing::condense` meets its promise: what decides is the first rule that fits of those from `rule` on, one of them a turn.
 use Prim.Native.Nat.{ℕ, suc, _-_, _≤_, _<_}
 use mathlib.Core.Path.{_≡_, refl, sym, ap, _∙_, subst}
-use mathlib.Core.Bool.{true, false}
 use mathlib.Core.List.{List, [], _∷_}
 use native.Mathlib.Omega.{arith}
 use native.Mathlib.Numerals.{add-one}
@@ -14,8 +13,9 @@ use Rattle.refusal.specs.Fills.{FillsOwn}
 use Rattle.refusal.proofs.FillsLaws.{laying-made}
 use Rattle.refusal.proofs.OwnLaws.{own-refused, own-of-fills}
 use Rattle.patterns.specs.Patterns.{same}
+use Rattle.patterns.proofs.PatternLaws.{same-true, same-false}
 use Rattle.upc_e.specs.Condensing.{expanded, shorts, firstFit, condensed}
-use Rattle.upc_e.proofs.CondensingLaws.{condensed-made}
+use Rattle.upc_e.proofs.CondensingLaws.{fit-first, fit-later, condensed-made}
 use Rattle.upc_e.proofs.condensing.condense.Statement.{statement}
 use Rattle.upc_e.proofs.condensing.condense.Tie as tie
 
@@ -42,13 +42,11 @@ module _ (digits : List ℕ) (rule : ℕ) (h : rule < 4) where
   unfolding shorts
   next = drop-cons (shorts digits) rule [] h
 
-  fits : same (expanded short) digits ≡ true → firstFit (drop rule (shorts digits)) digits ≡ made short
-  unfolding firstFit
-  fits e = rw (next, e)
+  fits : expanded short ≡ digits → firstFit (drop rule (shorts digits)) digits ≡ made short
+  fits is = rw next (fit-first short (drop (suc rule) (shorts digits)) digits is)
 
-  other : same (expanded short) digits ≡ false → firstFit (drop rule (shorts digits)) digits ≡ firstFit (drop (suc rule) (shorts digits)) digits
-  unfolding firstFit
-  other e = rw (next, e)
+  other : (expanded short ≡ digits → ⊥) → firstFit (drop rule (shorts digits)) digits ≡ firstFit (drop (suc rule) (shorts digits)) digits
+  other apart = rw next (fit-later short (drop (suc rule) (shorts digits)) digits apart)
 
 none : (digits : List ℕ) → firstFit (drop 4 (shorts digits)) digits ≡ refused Condensed
 unfolding firstFit shorts
@@ -83,7 +81,7 @@ returns c =
     let found = lay .before .before .before in
     let at = found .before in
     let loop = turn at .loop in
-    let made-short = loop .inv .2 ∙ fits (digits at) (rule at) (omega arith) (sym (compared at) ∙ found .if1 .taken) ∙ ap made (sym (by-rule at)) in
+    let made-short = loop .inv .2 ∙ fits (digits at) (rule at) (omega arith) (same-true _ _ (sym (compared at) ∙ found .if1 .taken)) ∙ ap made (sym (by-rule at)) in
     let long = condensed-made (digits at) (tried at) made-short .1 in
     let room = laying-made (tried at) (length (loop .short)) (omega (arith, ap length (loop .inv .1), start at .pre .1)) in
     subst (λ (before : List ℕ). FillsOwn (condensed (digits at)) before (lay .lay .result) (lay .lay .last .1 .0)) (loop .inv .1)
@@ -92,7 +90,7 @@ returns c =
 loop-again : tie.Need-loop-again Inv-loop μ-loop
 loop-again c =
     let at = c .before in
-    let e = other (digits at) (rule at) (omega arith) (sym (compared at) ∙ c .if1 .left) in
+    let e = other (digits at) (rule at) (omega arith) (same-false _ _ (sym (compared at) ∙ c .if1 .left)) in
     (omega arith, turn at .loop .inv .1, rw add-one (turn at .loop .inv .2 ∙ e))
 
 returns-2 : tie.Need-returns-2 Inv-loop μ-loop
