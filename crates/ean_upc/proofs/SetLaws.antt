@@ -1,10 +1,11 @@
--- The patterns of a half: in every set no two are equal and each has four widths, by computed tests; and the one value that widths can have in
--- sets A and B is the only one that they can have in either.
-use Prim.Native.Nat.{ℕ, _*_, _<_}
-use mathlib.Core.Path.{_≡_, _∙_}
-use mathlib.Core.List.{List, [], _++_}
+-- The patterns of a half: in every set no two are equal and each has four widths, by computed tests; the one value that widths can have in
+-- sets A and B is the only one that they can have in either; and a pattern is a row of set A, from ten on backwards.
+use Prim.Native.Nat.{ℕ, _+_, _-_, _*_, _<_, _≤_}
+use mathlib.Core.Path.{_≡_, refl, sym, ap, _∙_}
+use mathlib.Core.List.{List, [], _++_, reverse}
 use native.Mathlib.Omega.{arith}
-use lib.ListN.{length, getD, List·getD-append}
+use lib.ListN.{length, getD, List·getD-append, List·getD-map}
+use lib.Seq.{getD-append-add}
 use lib.Dec.{T}
 use Rattle.laws.specs.Below.{Below}
 use Rattle.laws.specs.First.{firstNot}
@@ -38,3 +39,20 @@ pub candidate-in : (sets : Sets) (widths : List ℕ) (v : ℕ) → Candidate (se
 candidate-in A widths v candidate u h is = candidate u (omega arith) (List·getD-append setA setB [] u h ∙ is)
 candidate-in AOrB widths v candidate u h is = candidate u h is
 candidate-in C widths v candidate u h is = candidate u (omega arith) (List·getD-append setA setB [] u h ∙ is)
+
+pub at-most-twenty : (sets : Sets) → length (patternsOf sets) ≤ 20
+at-most-twenty A = omega arith
+at-most-twenty AOrB = omega arith
+at-most-twenty C = omega arith
+
+pub pattern-below : (sets : Sets) (v : ℕ) → v < 10 → getD (patternsOf sets) v [] ≡ getD setA v []
+pattern-below A v h = refl
+pattern-below AOrB v h = List·getD-append setA setB [] v h
+pattern-below C v h = refl
+
+pub pattern-above : (sets : Sets) (v : ℕ) → 10 ≤ v → v < length (patternsOf sets) → getD (patternsOf sets) v [] ≡ reverse (getD setA (v - 10) [])
+pattern-above A v from h = absurd (omega arith)
+pattern-above AOrB v from h =
+    let back : 10 + (v - 10) ≡ v = omega arith in
+    ap (λ (u : ℕ). getD (setA ++ setB) u []) (sym back) ∙ getD-append-add setA setB (v - 10) [] ∙ List·getD-map reverse setA (v - 10) []
+pattern-above C v from h = absurd (omega arith)
