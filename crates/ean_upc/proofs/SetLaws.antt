@@ -1,5 +1,5 @@
--- The patterns of a half: in every set no two are equal and each has four widths, by computed tests; the one value that widths can have in
--- sets A and B is the only one that they can have in either; and a pattern is a row of set A, from ten on backwards.
+-- The patterns of a half: in every set no two are equal and each has four widths, by computed tests; all of them are among those of A or B, so
+-- that the one value that widths can have there is the only one that they can have in any; and a pattern is a row of set A, from ten on backwards.
 use Prim.Native.Nat.{ℕ, _+_, _-_, _*_, _<_, _≤_}
 use mathlib.Core.Path.{_≡_, refl, sym, ap, _∙_}
 use mathlib.Core.List.{List, [], _++_, reverse}
@@ -35,24 +35,22 @@ four-widths sets v h = length-at (patternsOf sets) 4 (sized-sets sets) v h
 pub length-of-half : (sets : Sets) (values : List ℕ) → Below (length (patternsOf sets)) values → length (drawn (patternsOf sets) values) ≡ 4 * length values
 length-of-half sets values below = length-of-drawn (patternsOf sets) 4 (sized-sets sets) values below
 
+-- every half's patterns are among those of A or B, at the same value
+pub in-both : (sets : Sets) (v : ℕ) → v < length (patternsOf sets) → (v < 20) × (getD (patternsOf sets) v [] ≡ getD (setA ++ setB) v [])
+in-both A v h = (omega arith, sym (List·getD-append setA setB [] v h))
+in-both AOrB v h = (h, refl)
+in-both C v h = (omega arith, sym (List·getD-append setA setB [] v h))
+
 pub candidate-in : (sets : Sets) (widths : List ℕ) (v : ℕ) → Candidate (setA ++ setB) widths v → Candidate (patternsOf sets) widths v
-candidate-in A widths v candidate u h is = candidate u (omega arith) (List·getD-append setA setB [] u h ∙ is)
-candidate-in AOrB widths v candidate u h is = candidate u h is
-candidate-in C widths v candidate u h is = candidate u (omega arith) (List·getD-append setA setB [] u h ∙ is)
+candidate-in sets widths v candidate u h is =
+    let both = in-both sets u h in
+    candidate u (both .0) (sym (both .1) ∙ is)
 
-pub at-most-twenty : (sets : Sets) → length (patternsOf sets) ≤ 20
-at-most-twenty A = omega arith
-at-most-twenty AOrB = omega arith
-at-most-twenty C = omega arith
+pub pattern-below : (sets : Sets) (v : ℕ) → v < length (patternsOf sets) → v < 10 → getD (patternsOf sets) v [] ≡ getD setA v []
+pattern-below sets v h below = in-both sets v h .1 ∙ List·getD-append setA setB [] v below
 
-pub pattern-below : (sets : Sets) (v : ℕ) → v < 10 → getD (patternsOf sets) v [] ≡ getD setA v []
-pattern-below A v h = refl
-pattern-below AOrB v h = List·getD-append setA setB [] v h
-pattern-below C v h = refl
-
-pub pattern-above : (sets : Sets) (v : ℕ) → 10 ≤ v → v < length (patternsOf sets) → getD (patternsOf sets) v [] ≡ reverse (getD setA (v - 10) [])
-pattern-above A v from h = absurd (omega arith)
-pattern-above AOrB v from h =
-    let back : 10 + (v - 10) ≡ v = omega arith in
-    ap (λ (u : ℕ). getD (setA ++ setB) u []) (sym back) ∙ getD-append-add setA setB (v - 10) [] ∙ List·getD-map reverse setA (v - 10) []
-pattern-above C v from h = absurd (omega arith)
+pub pattern-above : (sets : Sets) (v : ℕ) → v < length (patternsOf sets) → 10 ≤ v → getD (patternsOf sets) v [] ≡ reverse (getD setA (v - 10) [])
+pattern-above sets v h above =
+    let back : v ≡ 10 + (v - 10) = omega arith in
+    in-both sets v h .1 ∙ ap (λ (u : ℕ). getD (setA ++ setB) u []) back
+    ∙ getD-append-add setA setB (v - 10) [] ∙ List·getD-map reverse setA (v - 10) []
