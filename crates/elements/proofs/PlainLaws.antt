@@ -18,19 +18,17 @@ use Rattle.identifiers.specs.declared.Content.{Content}
 use Rattle.identifiers.specs.declared.Content.the-variants.{DigitsWithCheck, Date, Digits, Text}
 use Rattle.identifiers.specs.declared.Kind.{Kind}
 use Rattle.character_set_82.specs.Characters.{isOf82, separator, toSeparator}
-use Rattle.identifiers.specs.Data.{allPass, pairAt, isDate, isNumber, passes, rightData}
+use Rattle.identifiers.specs.Data.{allPass, isNumber, passes, rightData}
 use Rattle.identifiers.specs.Identifiers.{table, kindOf}
 use Rattle.elements.specs.Strings.{dataOf}
 use Rattle.identifiers.proofs.ListedLaws.{allRows, kind-passes}
+use Rattle.identifiers.proofs.DateLaws.{parts-of-date}
 use Rattle.character_set_82.proofs.CharacterLaws.{digit-of-82, no-separator}
 
 passes-of-82 : (content : Content) (bytes : List ℕ) → passes content bytes ≡ true → firstNot isOf82 bytes ≡ length bytes
-unfolding passes isNumber isDate
+unfolding passes isNumber
 passes-of-82 DigitsWithCheck bytes e = pass-also isDigit isOf82 digit-of-82 bytes (eqb-true _ _ (both-hold (allPass isDigit bytes) _ e .0))
-passes-of-82 Date bytes e =
-    let a = both-hold (allPass isDigit bytes && leb 1 (pairAt bytes 2) && leb (pairAt bytes 2) 12) (leb (pairAt bytes 4) 31) e in
-    let b = both-hold (allPass isDigit bytes && leb 1 (pairAt bytes 2)) (leb (pairAt bytes 2) 12) (a .0) in
-    pass-also isDigit isOf82 digit-of-82 bytes (eqb-true _ _ (both-hold (allPass isDigit bytes) (leb 1 (pairAt bytes 2)) (b .0) .0))
+passes-of-82 Date bytes e = pass-also isDigit isOf82 digit-of-82 bytes (eqb-true _ _ (parts-of-date bytes e .digits))
 passes-of-82 Digits bytes e = pass-also isDigit isOf82 digit-of-82 bytes (eqb-true _ _ e)
 passes-of-82 Text bytes e = eqb-true _ _ e
 

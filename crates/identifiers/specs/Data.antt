@@ -1,10 +1,11 @@
--- Document 01, "Element strings": what the data of each row must be. Refusal 10: "data of an element string wrong".
-use Prim.Native.Nat.{ℕ, _+_, _*_}
-use mathlib.Core.Bool.{Bool, _&&_}
-use mathlib.Core.List.{List, map}
+-- Document 01, "Element strings", and document 02, request 3: what the data of each row must be. Refusal 10: "data of an element string wrong".
+use Prim.Native.Nat.{ℕ, _+_, _*_, _%_}
+use mathlib.Core.Bool.{Bool, cond, _&&_}
+use mathlib.Core.List.{List, [], _∷_, map}
 use lib.ListN.{length, getD}
 use lib.Dec.{leb, eqb}
 use Rattle.laws.specs.First.{firstNot}
+use Rattle.laws.specs.Among.{among}
 use Rattle.digits.specs.Digit.{isDigit, valueOf}
 use Rattle.digits.specs.Check.{isRight}
 use Rattle.character_set_82.specs.Characters.{isOf82}
@@ -19,10 +20,17 @@ allPass test bytes = eqb (firstNot test bytes) (length bytes)
 abbrev pub pairAt : List ℕ → ℕ → ℕ
 pairAt bytes i = 10 * valueOf (getD bytes i 0) + valueOf (getD bytes (i + 1) 0)
 
--- "YYMMDD; MM 01 to 12, DD 00 to 31"
+-- how many days a month of a year has; "29 February needs a year YY divisible by 4 (00 is 2000)"
+unfoldable pub daysIn : ℕ → ℕ → ℕ
+daysIn year month =
+    cond (among (4 ∷ 6 ∷ 9 ∷ 11 ∷ []) month) 30
+    (cond (eqb month 2) (cond (eqb (year % 4) 0) 29 28) 31)
+
+-- "YYMMDD; MM 01 to 12"; "DD must now exist in its month", and "DD 00 stays, it means no day is given"
 unfoldable pub isDate : List ℕ → Bool
 isDate bytes =
-    allPass isDigit bytes && leb 1 (pairAt bytes 2) && leb (pairAt bytes 2) 12 && leb (pairAt bytes 4) 31
+    allPass isDigit bytes && leb 1 (pairAt bytes 2) && leb (pairAt bytes 2) 12
+    && leb (pairAt bytes 4) (daysIn (pairAt bytes 0) (pairAt bytes 2))
 
 -- digits, the last of them the check digit
 unfoldable pub isNumber : List ℕ → Bool

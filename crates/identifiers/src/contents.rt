@@ -5,7 +5,7 @@ ghost use Prim.Native.Nat.{_≤_, _<_};
 ghost use lib.ListN.{length};
 ghost use Rattle.digits.specs.Digit.{isDigit};
 ghost use Rattle.character_set_82.specs.Characters.{isOf82};
-ghost use Rattle.identifiers.specs.Data.{allPass, isNumber, isDate, rightData};
+ghost use Rattle.identifiers.specs.Data.{allPass, isNumber, daysIn, isDate, rightData};
 ghost use Rattle.identifiers.specs.Rows.{sized};
 use crate::Content;
 use crate::Kind;
@@ -45,7 +45,7 @@ fn is_number(bytes: &[u8]) -> bool
     }
 }
 
-// YYMMDD; MM 01 to 12, DD 00 to 31.
+// YYMMDD; MM 01 to 12, DD a day of that month, or 00 where no day is given.
 fn is_date(bytes: &[u8]) -> bool
     requires { ⌜ length (now bytes) ≡ 6 ⌝ }
     ensures { λ r. ⌜ r ≡ isDate (now (bytes .entry)) ⌝ }
@@ -60,7 +60,19 @@ fn is_date(bytes: &[u8]) -> bool
     if 12 < month {
         return false;
     }
-    crate::pair_at(bytes, 4) <= 31
+    let last = days_in(crate::pair_at(bytes, 0), month);
+    crate::pair_at(bytes, 4) <= last
+}
+
+// How many days a month has. Only YY is known of its year, so 00 is a leap year.
+fn days_in(year: usize, month: usize) -> usize
+    ensures { λ r. ⌜ r ≡ daysIn year month ⌝ }
+{
+    match month {
+        4 | 6 | 9 | 11 => 30,
+        2 => { if year % 4 == 0 { 29 } else { 28 } }
+        _ => 31,
+    }
 }
 
 fn is_digits(bytes: &[u8]) -> bool
