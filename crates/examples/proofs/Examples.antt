@@ -1,6 +1,5 @@
--- The rules make of every example of document 01 what it says: computed.
-use mathlib.Core.Path.{_≡_, refl}
-use mathlib.Core.List.{map}
+-- The rules make of every example what its document says: computed.
+use mathlib.Core.Path.{refl}
 use Rattle.laws.specs.First.{firstNot}
 use Rattle.laws.specs.Weighed.{weighed}
 use Rattle.digits.specs.Digit.{digitsOf}
@@ -16,7 +15,7 @@ use Rattle.itf14.specs.Itf14.{writes as writes14, reads as reads14, symbol as s
 use Rattle.laws.specs.Among.{placeIn}
 use Rattle.character_set_82.specs.Characters.{eightyTwo, isOf82, toSeparator, isMessageByte}
 use Rattle.identifiers.specs.Identifiers.{measures, table, kindIn, kindOf as rowKind, spelled, firstOf, identifiersOf, listed, identifierIn}
-use Rattle.identifiers.specs.Data.{isDate, isNumber, passes, rightData}
+use Rattle.identifiers.specs.Data.{daysIn, isDate, isNumber, passes, rightData}
 use Rattle.elements.specs.Strings.{dataOf, nextAfter, elementOf, stringAt, stringsFrom, parsed, tested}
 use Rattle.code_sets.specs.Sets.{meaningIn}
 use Rattle.code_sets.specs.Reading.{stepIn, spells, decoded}
@@ -28,8 +27,14 @@ use Rattle.gs1_128.specs.Scanning.{guarded, startIn, judgedValues, scanned}
 use Rattle.gs1_128.specs.Rules as Gs1
 use Rattle.symbols.specs.Kinds.{kindOf, readsAs, writesAs}
 use Rattle.symbols.specs.Readings.{reads}
-use Rattle.examples.specs.Examples.{Example, examples, ruled}
+use Rattle.examples.specs.Examples.{examples, existingDates, ruled, Hold}
 
-pub examples-hold : map ruled examples ≡ map (λ (example : Example). example .shown) examples
-unfolding ruled examples reads kindOf readsAs writesAs writes13 reads13 symbol13 scanned13 writes8 reads8 symbol8 scanned8 writes14 reads14 symbol14 scanned14 pairs numberWritten numberRead rightNumber digitsOf Gs1.writes Gs1.reads Gs1.messageIn Gs1.messageFrom tested isMessageByte bestSpelling bests better comesFirst checkOf placed symbolOf drawn patterns scanned startIn guarded judgedValues characters valueIn same firstNot decoded spells stepIn meaningIn parsed stringsFrom stringAt elementOf nextAfter dataOf rightData passes isNumber isDate isRight weightAt weighed identifierIn firstOf listed identifiersOf table measures rowKind kindIn spelled isOf82 eightyTwo toSeparator placeIn halvesDrawn guardedHalves halvesIn between
-examples-hold = refl
+computed : Hold examples × Hold existingDates
+unfolding ruled examples existingDates reads kindOf readsAs writesAs writes13 reads13 symbol13 scanned13 writes8 reads8 symbol8 scanned8 writes14 reads14 symbol14 scanned14 pairs numberWritten numberRead rightNumber digitsOf Gs1.writes Gs1.reads Gs1.messageIn Gs1.messageFrom tested isMessageByte bestSpelling bests better comesFirst checkOf placed symbolOf drawn patterns scanned startIn guarded judgedValues characters valueIn same firstNot decoded spells stepIn meaningIn parsed stringsFrom stringAt elementOf nextAfter dataOf rightData passes isNumber daysIn isDate isRight weightAt weighed identifierIn firstOf listed identifiersOf table measures rowKind kindIn spelled isOf82 eightyTwo toSeparator placeIn halvesDrawn guardedHalves halvesIn between
+computed = (refl, refl)
+
+pub examples-hold : Hold examples
+examples-hold = computed .0
+
+pub existing-dates-hold : Hold existingDates
+existing-dates-hold = computed .1

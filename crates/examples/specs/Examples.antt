@@ -1,7 +1,8 @@
--- Document 01, "Examples on each side": P1 to P14, each with what it gives, and what the rules make of it: it is written, with room for any
--- symbol, and what was written is read as a list whose kind is not named.
+-- Document 01, "Examples on each side": P1 to P14, and the examples of document 02's requests, each with what it gives, and what the rules make
+-- of it: it is written, with room for any symbol, and what was written is read as a list whose kind is not named.
 use Prim.Native.Nat.{ℕ}
 use Prim.Native.String.{String}
+use mathlib.Core.Path.{_≡_}
 use mathlib.Core.List.{List, [], _∷_, map}
 use lib.ListN.{length}
 use Rattle.refusal.specs.Outcome.{Outcome, made, refused, _>>=_}
@@ -62,6 +63,20 @@ examples =
     ∷ refusedWith Gs1128 "0110012345678903" 10 0
     ∷ []
 
+-- document 02, request 3: DD "must now exist in its month"
+unfoldable pub existingDates : List Example
+existingDates =
+    refusedWith Gs1128 "17260230" 10 0
+    ∷ accepted Gs1128 "17280229" (105 ∷ 102 ∷ 17 ∷ 28 ∷ 2 ∷ 29 ∷ 66 ∷ []) 49
+    -- "29 February needs a year YY divisible by 4 (00 is 2000)"
+    ∷ refusedWith Gs1128 "17270229" 10 0
+    ∷ accepted Gs1128 "17000229" (105 ∷ 102 ∷ 17 ∷ 0 ∷ 2 ∷ 29 ∷ 85 ∷ []) 49
+    -- "DD 00 stays"
+    ∷ accepted Gs1128 "17260200" (105 ∷ 102 ∷ 17 ∷ 26 ∷ 2 ∷ 0 ∷ 18 ∷ []) 49
+    -- the place of the second string
+    ∷ refusedWith Gs1128 "201217260431" 10 4
+    ∷ []
+
 -- of a number its digits, of a message the symbol characters
 abbrev charactersOf : Kind → List ℕ → List ℕ
 charactersOf Ean13 number = map valueOf number
@@ -80,3 +95,7 @@ ruled example = shownBy (do
   widths ← writesAs (example .kind) (example .given) 619
   reading ← reads widths 48
   made (symbol (charactersOf (example .kind) (example .given)) (length widths) (reading .0) (reading .1)))
+
+-- what a table says of its examples is what the rules make of them
+abbrev pub Hold : List Example → Type 0
+Hold table = map ruled table ≡ map (λ (example : Example). example .shown) table
