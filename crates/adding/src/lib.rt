@@ -1,4 +1,6 @@
 // Adding an element string to a message in a lent buffer.
+#![tactic(auto)]
+
 ghost use Rattle.refusal.specs.Fills.{Fills};
 ghost use Rattle.adding.specs.Adding.{adds};
 

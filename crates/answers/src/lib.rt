@@ -1,5 +1,7 @@
 // Lines of answer, as both programs print them: what a call made, or its refusal. Each function writes at the front of what it is lent, and
 // answers the count of bytes written.
+#![tactic(auto)]
+
 ghost use Rattle.std.specs.Prelude.{◌≡◌, ◌+◌, ◌≤◌, length};
 ghost use Rattle.text.specs.Puts.{Puts};
 ghost use Rattle.answers.specs.Lines.{shown_as, Shows, Made, numbers_line, answer_line, counted_line, made_line};

@@ -1,4 +1,6 @@
 // Asking a message for one identifier: its data as the message's own bytes, and the companion call that tells why there is none.
+#![tactic(auto)]
+
 ghost use Rattle.std.specs.Prelude.{◌≡◌};
 ghost use Rattle.refusal.specs.Fills.{answered};
 ghost use Rattle.elements.specs.Found.{found_of};

@@ -1,6 +1,8 @@
 // The bench program: each line of standard input is a message, and each gets one line of answer on standard output.
 //
 // It takes the input in blocks, has `block` answer the lines that end in each, and writes the answers out.
+#![tactic(auto)]
+
 ghost use Rattle.std.specs.Prelude.{◌≡◌, true, ◌≤◌, ◌<◌, length, take, drop};
 ghost use Rattle.blocks.specs.Blocks.{filled};
 ghost use Rattle.bench.specs.Line.{longest_answer};

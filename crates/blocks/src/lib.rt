@@ -1,6 +1,8 @@
 // What every program that answers lines shares: standard input taken in blocks, and answers written to standard output.
 //
 // What follows the last line that ends in a block is held at the front of the input while the next block is read after it.
+#![tactic(auto)]
+
 ghost use Rattle.std.specs.Prelude.{◌≡◌, ◌++◌, ◌+◌, ◌≤◌, ◌<◌, min, length, take, drop};
 ghost use Rattle.blocks.specs.Blocks.{filled, Holds};
 

@@ -1,4 +1,6 @@
 // The desk's lines and their answers. Nothing here reads or writes anything but the bytes it is lent.
+#![tactic(auto)]
+
 ghost use Rattle.std.specs.Prelude.{◌≡◌, ◌≤◌, length};
 ghost use Rattle.text.specs.Puts.{Puts};
 ghost use Rattle.calls.specs.Answers.{called, answer_by, answer_to};

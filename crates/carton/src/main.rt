@@ -1,4 +1,6 @@
 // A program of a user's own, the example of README.md: a carton's message is built up in one lent buffer, and its symbol is drawn in another.
+#![tactic(auto)]
+
 use gs1_128::Gs1128;
 use refusal::Answer;
 

@@ -1,4 +1,6 @@
 // The 82 characters of a message, and the separator.
+#![tactic(auto)]
+
 ghost use Rattle.std.specs.Prelude.{◌≡◌};
 ghost use Rattle.laws.specs.First.{first_not};
 ghost use Rattle.character_set_82.specs.Characters.{is_of82, is_of};

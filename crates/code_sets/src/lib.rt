@@ -1,4 +1,6 @@
 // Code sets A, B and C: the message that values spell.
+#![tactic(auto)]
+
 ghost use Rattle.std.specs.Prelude.{[], ◌≡◌, length};
 ghost use Rattle.refusal.specs.Fills.{FillsOwn};
 ghost use Rattle.code_sets.specs.Reading.{in-set, start_set, decoded};

@@ -1,6 +1,8 @@
 // The desk: each line of standard input is a call, and each gets one line of answer on standard output.
 //
 // It takes the input in blocks, has `calls` answer the lines that end in each, and writes the answers out.
+#![tactic(auto)]
+
 ghost use Rattle.std.specs.Prelude.{◌≤◌, ◌<◌, length};
 ghost use Rattle.blocks.specs.Blocks.{filled};
 

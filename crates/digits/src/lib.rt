@@ -1,4 +1,6 @@
 // What a digit is, and the check digit of a number.
+#![tactic(auto)]
+
 ghost use Rattle.std.specs.Prelude.{◌≡◌, map, ◌≤◌, ◌<◌, length};
 ghost use Rattle.laws.specs.First.{first_not};
 ghost use Rattle.laws.specs.Below.{Below};

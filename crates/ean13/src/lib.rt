@@ -1,4 +1,6 @@
 // EAN-13: a number drawn as widths, and widths read as a number.
+#![tactic(auto)]
+
 ghost use Rattle.std.specs.Prelude.{length};
 ghost use Rattle.refusal.specs.Fills.{Fills};
 ghost use Rattle.ean13.specs.Ean13.{writes, reads};

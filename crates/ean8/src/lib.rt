@@ -1,4 +1,6 @@
 // EAN-8: a number drawn as widths, and widths read as a number.
+#![tactic(auto)]
+
 ghost use Rattle.std.specs.Prelude.{length};
 ghost use Rattle.refusal.specs.Fills.{Fills};
 ghost use Rattle.ean8.specs.Ean8.{writes, reads};

@@ -1,4 +1,6 @@
 // Element strings: one at a time, and the test of a whole message.
+#![tactic(auto)]
+
 ghost use Rattle.std.specs.Prelude.{◌≡◌, List};
 ghost use Rattle.refusal.specs.Outcome.{made};
 ghost use Rattle.refusal.specs.Fills.{answer_of};

@@ -1,4 +1,6 @@
 // GS1-128: a symbol from a message, and back.
+#![tactic(auto)]
+
 ghost use Rattle.std.specs.Prelude.{◌≡◌, ◌+◌, ◌-◌, ◌*◌, ◌/◌, ◌≤◌, ◌<◌, length};
 ghost use Rattle.refusal.specs.Outcome.{◌>>=◌ as ◌then◌};
 ghost use Rattle.refusal.specs.Fills.{Fills, FillsOwn};

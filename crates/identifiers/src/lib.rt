@@ -1,4 +1,6 @@
 // The identifiers: which one some bytes begin with, and what its data must be.
+#![tactic(auto)]
+
 ghost use Rattle.std.specs.Prelude.{◌≡◌, true, ◌+◌, ◌<◌, length, get_or, take};
 ghost use Rattle.laws.specs.First.{first_not};
 ghost use Rattle.digits.specs.Digit.{is_digit};

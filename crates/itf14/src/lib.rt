@@ -1,4 +1,6 @@
 // ITF-14: a number drawn as widths, and read from them.
+#![tactic(auto)]
+
 ghost use Rattle.std.specs.Prelude.{length};
 ghost use Rattle.refusal.specs.Fills.{Fills};
 ghost use Rattle.itf14.specs.Itf14.{writes, reads};

@@ -1,4 +1,6 @@
 // Bytes cut at a byte: blocks into lines, lines into words.
+#![tactic(auto)]
+
 ghost use Rattle.std.specs.Prelude.{◌≡◌, ◌+◌, ◌≤◌, length, drop};
 ghost use Rattle.laws.specs.First.{first_not};
 ghost use Rattle.lines.specs.Cut.{other_than};

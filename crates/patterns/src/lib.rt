@@ -1,4 +1,6 @@
 // What every table of width patterns has in common.
+#![tactic(auto)]
+
 ghost use Rattle.std.specs.Prelude.{◌≡◌};
 ghost use Rattle.patterns.specs.Patterns.{same};
 

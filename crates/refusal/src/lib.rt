@@ -1,4 +1,6 @@
 // The refusals of document 01, what a call answers, and the one copy into a lent list.
+#![tactic(auto)]
+
 ghost use Rattle.std.specs.Prelude.{◌≡◌, length};
 ghost use Rattle.refusal.specs.Numbers.{number_of, place_of};
 ghost use Rattle.refusal.specs.Fills.{Fills, laying};

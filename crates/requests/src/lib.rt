@@ -1,4 +1,6 @@
 // A line of the desk as a request: which call it asks for, how many places that is lent, and where its arguments begin; or what is wrong with it.
+#![tactic(auto)]
+
 ghost use Rattle.std.specs.Prelude.{◌≡◌, ◌≤◌, length};
 ghost use Rattle.requests.specs.Requests.{places_of, request_of, in_room, call_at, leading_of, capped, Within, LeadsWithin};
 

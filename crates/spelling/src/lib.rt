@@ -1,5 +1,7 @@
 // The best spelling of a message, in two passes: from the end on, a state at each place tells in which set the byte there is spelled;
 // then the values are written.
+#![tactic(auto)]
+
 ghost use Rattle.std.specs.Prelude.{◌≡◌, true, false, cond, ◌++◌, ◌≤◌, ◌<◌, length, drop};
 ghost use Rattle.laws.specs.First.{first_not};
 ghost use Rattle.character_set_82.specs.Characters.{is_message_byte};

@@ -1,4 +1,6 @@
 // Splitting a message into a lent list of records.
+#![tactic(auto)]
+
 ghost use Rattle.std.specs.Prelude.{min, length, replicate};
 ghost use Rattle.refusal.specs.Fills.{Fills};
 ghost use Rattle.splitting.specs.Splitting.{splits};

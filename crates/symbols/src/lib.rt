@@ -1,4 +1,6 @@
 // The kinds of symbol, and a list of widths whose kind is not named.
+#![tactic(auto)]
+
 ghost use Rattle.std.specs.Prelude.{◌≡◌, length};
 ghost use Rattle.refusal.specs.Fills.{Fills};
 ghost use Rattle.symbols.specs.Kinds.{kind_of, reads_as, writes_as, named_of};

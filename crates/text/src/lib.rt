@@ -1,4 +1,6 @@
 // Text, as it is typed and printed: numbers, widths and messages.
+#![tactic(auto)]
+
 mod typed;
 mod widths;
 

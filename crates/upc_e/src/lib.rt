@@ -1,4 +1,6 @@
 // UPC-E: a number of twelve digits that begins with 0, condensed and drawn as widths, and widths read as such a number.
+#![tactic(auto)]
+
 ghost use Rattle.std.specs.Prelude.{length};
 ghost use Rattle.refusal.specs.Fills.{Fills};
 ghost use Rattle.upc_e.specs.UpcE.{writes, reads};

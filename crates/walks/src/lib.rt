@@ -1,1 +1,2 @@
 // No code: steps that the hand-written walks of functions share.
+#![tactic(auto)]
