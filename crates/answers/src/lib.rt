@@ -9,7 +9,7 @@ ghost use Rattle.answers.specs.Lines.{shown_as, Shows, Made, numbers_line, answe
 use refusal::Answer;
 
 // How a list is shown: a digit for each width, or the bytes of a number or a message, with `^` for a separator.
-#[derive(Drop)]
+#[derive(Clone, Copy)]
 pub enum Form {
     Widths,
     Bytes,

@@ -6,7 +6,7 @@ ghost use Rattle.bench.specs.Block.{IsLine, Answered};
 use crate::line;
 
 // Where the first line begins that isn't answered yet, and how many bytes of answers have been put.
-#[derive(Drop)]
+#[derive(Clone, Copy)]
 pub struct Progress {
     pub next: usize,
     pub put: usize,

@@ -14,7 +14,7 @@ mod block;
 mod line;
 
 // Where the first line begins that isn't answered yet, and whether the answers could be written.
-#[derive(Drop)]
+#[derive(Clone, Copy)]
 struct Passed {
     start: usize,
     written: bool,

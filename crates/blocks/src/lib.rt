@@ -11,7 +11,7 @@ use libc::{STDERR_FILENO, STDIN_FILENO, STDOUT_FILENO};
 // The front of the input: `held` bytes of a line that the blocks before have begun, and `more` bytes that were read after them. A proved
 // loop has to end, and nothing says that the input does, so blocks are counted down, from a number that no run uses up: where none is
 // left, this is no block.
-#[derive(Drop)]
+#[derive(Clone, Copy)]
 pub struct Block {
     pub held: usize,
     pub more: usize,

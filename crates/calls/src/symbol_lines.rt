@@ -16,7 +16,7 @@ use symbols::{Kind, Named};
 use text::Widths;
 
 // A part of some text: where it begins, and where it ends.
-#[derive(Drop)]
+#[derive(Clone, Copy)]
 pub struct Part {
     from: usize,
     to: usize,

@@ -26,7 +26,7 @@ pub fn is_of_82(byte: u8) -> bool
 }
 
 // What a search passes over: the bytes of a message, the 82, or every byte but the separator.
-#[derive(Drop)]
+#[derive(Clone, Copy)]
 pub enum Class {
     Message,
     EightyTwo,

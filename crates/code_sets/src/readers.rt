@@ -14,7 +14,7 @@ use refusal::{Answer, Refusal};
 
 // How far a reading has come: the place of the next value, and how many bytes of the text stand in the list. It goes on in the same set or
 // in another, or it is stuck.
-#[derive(Drop)]
+#[derive(Clone, Copy)]
 pub enum Run {
     On(usize, usize),
     ToA(usize, usize),

@@ -2,14 +2,14 @@
 ghost use Rattle.std.specs.Prelude.{◌≡◌, ◌<◌};
 ghost use Rattle.code_sets.specs.Sets.{byte_in, other, letter_control, digit_control, meaning_in};
 
-#[derive(Drop)]
+#[derive(Clone, Copy)]
 pub enum Set {
     A,
     B,
     C,
 }
 
-#[derive(Drop)]
+#[derive(Clone, Copy)]
 pub enum Meaning {
     Byte(u8),
     Pair(u8),

@@ -4,7 +4,7 @@ ghost use Rattle.std.specs.Prelude.{◌+◌, ◌≤◌, min, length};
 const LONGEST_ANSWER: usize = 1024;
 
 // Where the first line begins that isn't answered yet, and how many bytes of answers have been put.
-#[derive(Drop)]
+#[derive(Clone, Copy)]
 pub struct Progress {
     pub next: usize,
     pub put: usize,

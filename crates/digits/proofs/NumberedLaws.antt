@@ -1,6 +1,6 @@
 -- The rules of the calls that draw and read a number, read backwards, and how they undo one another: a right number is its digits, its
 -- digits are its bytes, so all that a symbology adds is that its scan and its drawing undo one another.
-use Prim.Native.Nat.{ℕ, ◌+◌, ◌-◌, ◌≤◌, ◌<◌}
+use Prim.Native.Nat.{ℕ, ◌+◌, ◌≤◌, ◌<◌}
 use mathlib.Core.Path.{◌≡◌, refl, sym, ap, ap₂, ◌∙◌, subst}
 use mathlib.Core.Bool.{true}
 use mathlib.Core.List.{List, [], ◌∷◌, map}

@@ -10,7 +10,7 @@ mod stages;
 use refusal::Answer;
 
 // The calls on EAN-13 symbols.
-#[derive(Drop)]
+#[derive(Clone, Copy)]
 pub struct Ean13;
 
 impl Ean13 {

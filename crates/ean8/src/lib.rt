@@ -10,7 +10,7 @@ use ean_upc::{drawing, scanning};
 use refusal::Answer;
 
 // The calls on EAN-8 symbols.
-#[derive(Drop)]
+#[derive(Clone, Copy)]
 pub struct Ean8;
 
 impl Ean8 {

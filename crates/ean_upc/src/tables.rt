@@ -4,7 +4,7 @@ ghost use Rattle.ean_upc.specs.Tables.{set_a};
 ghost use Rattle.ean_upc.specs.Halves.{patterns_of};
 
 // The sets that a half of a symbol takes its characters from.
-#[derive(Drop)]
+#[derive(Clone, Copy)]
 pub enum Sets {
     A,
     AOrB,

@@ -17,7 +17,7 @@ mod strings;
 
 // An element string as it stands in a message: the identifier as a number, where its data begins and how long it is; where the next
 // string must begin, unless this is the last.
-#[derive(Drop)]
+#[derive(Clone, Copy)]
 pub struct Element {
     pub identifier: usize,
     pub begin: usize,
@@ -27,7 +27,7 @@ pub struct Element {
 }
 
 // What stands where an element string must begin.
-#[derive(Drop)]
+#[derive(Clone, Copy)]
 pub enum Found {
     String(Element),
     Refused(Refusal),

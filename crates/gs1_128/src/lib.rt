@@ -15,7 +15,7 @@ mod scanning;
 mod values;
 
 // A symbol's start, 103 to 105, and its n: how many characters stand between the start and the check, the first FNC1 among them.
-#[derive(Drop)]
+#[derive(Clone, Copy)]
 pub struct Gs1128 {
     start: usize,
     count: usize,

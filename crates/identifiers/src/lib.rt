@@ -12,7 +12,7 @@ ghost use Rattle.identifiers.specs.Data.{pair_at};
 pub mod contents;
 
 // What the data of an element string is.
-#[derive(Drop)]
+#[derive(Clone, Copy)]
 pub enum Content {
     DigitsWithCheck,
     Date,
@@ -21,7 +21,7 @@ pub enum Content {
 }
 
 // Whether the length of the data is predefined, the least and the most bytes, and what they are.
-#[derive(Drop)]
+#[derive(Clone, Copy)]
 pub struct Kind {
     pub predefined: bool,
     pub least: usize,
@@ -30,7 +30,7 @@ pub struct Kind {
 }
 
 // A listed identifier and its kind.
-#[derive(Drop)]
+#[derive(Clone, Copy)]
 pub enum Row {
     Listed(usize, Kind),
     Unlisted,

@@ -12,7 +12,7 @@ mod scanning;
 mod tables;
 
 // The calls on ITF-14 symbols, and the fixed numbers of their kind. Widths are in half modules.
-#[derive(Drop)]
+#[derive(Clone, Copy)]
 pub struct Itf14;
 
 impl Itf14 {

@@ -8,7 +8,7 @@ use crate::letters::{A, B};
 use patterns::Match;
 
 // Which digit the rows stand for: the first one of an EAN-13, or the check digit of a UPC-E.
-#[derive(Drop)]
+#[derive(Clone, Copy)]
 pub enum Rows {
     FirstDigit,
     CheckDigit,

@@ -14,7 +14,7 @@ use Rattle.laws.specs.Below.{Below}
 use Rattle.laws.proofs.BelowLaws.{below_of_nil, below_more, below_first, below_rest}
 use Rattle.laws.proofs.Tables.{every, at_entry}
 use Rattle.refusal.specs.declared.Refusal.TheVariants.{Pattern}
-use Rattle.refusal.specs.Outcome.{Outcome, made, refused, ◌>>=◌, ◌>>◌}
+use Rattle.refusal.specs.Outcome.{Outcome, made, refused, ◌>>=◌}
 use Rattle.refusal.proofs.OutcomeLaws.{made_same, must_made, bind_made}
 use Rattle.patterns.specs.Patterns.{value_in, drawn, characters}
 use Rattle.patterns.proofs.PatternLaws.{pattern_at, distinct, value_at}

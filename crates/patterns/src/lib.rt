@@ -5,7 +5,7 @@ ghost use Rattle.std.specs.Prelude.{◌≡◌};
 ghost use Rattle.patterns.specs.Patterns.{same};
 
 // What widths are found to stand for: a value of a table of patterns, or none.
-#[derive(Drop)]
+#[derive(Clone, Copy)]
 pub enum Match {
     Value(u8),
     Nothing,

@@ -6,7 +6,7 @@ ghost use Rattle.refusal.specs.Numbers.{number_of, place_of};
 ghost use Rattle.refusal.specs.Fills.{Fills, laying};
 
 // One case for each number, those of document 01's table and then those of document 02's requests; a case that has a place holds it.
-#[derive(Drop)]
+#[derive(Clone, Copy)]
 pub enum Refusal {
     Count,
     Character(usize),
@@ -25,7 +25,7 @@ pub enum Refusal {
 }
 
 // The count written, or the number asked for; or why there is none.
-#[derive(Drop)]
+#[derive(Clone, Copy)]
 pub enum Answer {
     Done(usize),
     Refused(Refusal),

@@ -11,7 +11,7 @@ use words::Named;
 pub mod faults;
 mod words;
 
-#[derive(Drop)]
+#[derive(Clone, Copy)]
 pub enum Word {
     Digit,
     Draw(Kind),
@@ -23,14 +23,14 @@ pub enum Word {
 }
 
 // The kind that a list of widths is read as: a named one, or the one that it has.
-#[derive(Drop)]
+#[derive(Clone, Copy)]
 pub enum Which {
     Only(Kind),
     Any,
 }
 
 // The arguments, by what stands for them in `help`.
-#[derive(Drop)]
+#[derive(Clone, Copy)]
 pub enum Argument {
     Places,
     Call,
@@ -42,7 +42,7 @@ pub enum Argument {
     Data,
 }
 
-#[derive(Drop)]
+#[derive(Clone, Copy)]
 pub enum Fault {
     Empty,
     NoSuchCall,
@@ -51,7 +51,7 @@ pub enum Fault {
 }
 
 // A call with the count of places that it is lent, and where its arguments begin in the line.
-#[derive(Drop)]
+#[derive(Clone, Copy)]
 pub enum Request {
     Call(Word, usize, usize),
     Help,
@@ -59,14 +59,14 @@ pub enum Request {
 }
 
 // An identifier that is typed before other arguments, and where these begin.
-#[derive(Drop)]
+#[derive(Clone, Copy)]
 pub enum Leading {
     Identifier(usize, usize),
     Wrong(Fault),
 }
 
 // How many places a call is lent: the usual ones, or as many as `room N ` says.
-#[derive(Drop)]
+#[derive(Clone, Copy)]
 pub enum Room {
     Usual,
     Exactly(usize),

@@ -6,7 +6,7 @@ use crate::{Argument, Which, Word};
 use patterns::equal;
 use symbols::Kind;
 
-#[derive(Drop)]
+#[derive(Clone, Copy)]
 pub enum Named {
     As(Word, Argument, usize),
     Nothing,

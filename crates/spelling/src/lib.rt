@@ -26,7 +26,7 @@ const AT_DIGIT: [u8; 16] = [1, 5, 6, 13, 2, 7, 10, 8, 11, 13, 14, 15, 3, 9, 10, 
 const AT_SEPARATOR: [u8; 16] = [0, 0, 0, 0, 4, 4, 12, 4, 12, 0, 4, 12, 12, 12, 12, 12];
 
 // One value, and how the spelling goes on: the place in the message, and whether set C is on.
-#[derive(Drop)]
+#[derive(Clone, Copy)]
 struct Step {
     value: u8,
     next: usize,

@@ -11,7 +11,7 @@ use refusal::Answer;
 mod records;
 
 // What splitting writes for an element string: the identifier as a number, where its data begins and how long it is.
-#[derive(Drop)]
+#[derive(Clone, Copy)]
 pub struct Record {
     pub identifier: usize,
     pub begin: usize,
@@ -19,7 +19,7 @@ pub struct Record {
 }
 
 // What splitting into twelve records gives: the answer, and the records then.
-#[derive(Drop)]
+#[derive(Clone, Copy)]
 pub struct Splitting {
     pub answer: Answer,
     pub records: [Record; 12],

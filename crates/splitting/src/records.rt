@@ -16,14 +16,14 @@ pub const BLANK: Record = Record {
 };
 
 // How many records a call writes, none where it refuses; and what it answers.
-#[derive(Drop)]
+#[derive(Clone, Copy)]
 pub struct Plan {
     pub count: usize,
     pub answer: Answer,
 }
 
 // The record of an element string, and where the next string must begin.
-#[derive(Drop)]
+#[derive(Clone, Copy)]
 pub struct Located {
     pub string: Record,
     pub next: usize,

@@ -13,7 +13,7 @@ use itf14::Itf14;
 use refusal::{Answer, Refusal};
 use upc_e::UpcE;
 
-#[derive(Drop)]
+#[derive(Clone, Copy)]
 pub enum Kind {
     Ean13,
     Ean8,
@@ -23,14 +23,14 @@ pub enum Kind {
 }
 
 // The kind that a list of widths is taken for; or why it is none.
-#[derive(Drop)]
+#[derive(Clone, Copy)]
 pub enum Named {
     As(Kind),
     Refused(Refusal),
 }
 
 // The kind of a symbol and how many bytes were read; or why there are none.
-#[derive(Drop)]
+#[derive(Clone, Copy)]
 pub enum Reading {
     Read(Kind, usize),
     Refused(Refusal),

@@ -13,7 +13,7 @@ pub use typed::{message_in, put_fitting, put_message};
 pub use widths::{Widths, put_widths, widths_in};
 
 // What a numeral is read as.
-#[derive(Drop)]
+#[derive(Clone, Copy)]
 pub enum Number {
     Is(usize),
     Malformed,

@@ -7,7 +7,7 @@ ghost use Rattle.text.specs.Widths.{run_together, digits_in, numbers_in, widths_
 use crate::Number;
 
 // How many widths a text says.
-#[derive(Drop)]
+#[derive(Clone, Copy)]
 pub enum Widths {
     Count(usize),
     Malformed,

@@ -11,7 +11,7 @@ mod stages;
 use refusal::{Answer, Refusal};
 
 // The calls on UPC-E symbols.
-#[derive(Drop)]
+#[derive(Clone, Copy)]
 pub struct UpcE;
 
 impl UpcE {
