@@ -5,7 +5,7 @@ use Prim.Native.Nat.{ℕ, zero, suc, ◌+◌}
 use mathlib.Core.List.{List, [], ◌∷◌, ◌++◌, map}
 use lib.ListN.{length, replicate, length-replicate, length-map}
 use seplogic.Ra.Ura.{Ura}
-use seplogic.Ra.TreeShare.{full_share}
+use base.Fraction.{full_share}
 use mir.Syntax.{Lifetime, ty_array}
 use mir.Val.{Val}
 use base.Logic.{SProp, ent, sep, ex, guard}
@@ -29,7 +29,7 @@ use denote.Struct.Declared.{Declared, fields, shape, row}
 use denote.Struct.Laws as LL
 
 -- `[x; n]`
-each_repeat : (R : RattleType) (x : R.Denot) (u : Val) → Is R x (u ∷ []) → (n : ℕ) → shadow (each R.Denot R.own (replicate n x) (replicate n u))
+each_repeat : (R : RattleType) (x : R.Denot) (u : Val) → Is R x (u ∷ []) → (n : ℕ) → shadow (each R.Denot R.own_val (replicate n x) (replicate n u))
 each_repeat R x u is zero = tt
 each_repeat R x u is (suc n) = (is, each_repeat R x u is n)
 
@@ -37,7 +37,7 @@ pub is_repeat : (R : RattleType) (x : R.Denot) (u : Val) → Is R x (u ∷ []) �
 is_repeat R x u is n = (replicate n u, ((refl, length-replicate n x), each_repeat R x u is n))
 
 -- an array of a declared type, as the field of another
-each_field : (T : Declared) (xs : List T.D) (us : List Val) → shadow (each T.D (row T).own xs us) → shadow (each (Struct (shape T)).Denot (Struct (shape T)).own_val (map T.to xs) us)
+each_field : (T : Declared) (xs : List T.D) (us : List Val) → shadow (each T.D (row T).own_val xs us) → shadow (each (Struct (shape T)).Denot (Struct (shape T)).own_val (map T.to xs) us)
 each_field T [] [] s = s
 each_field T [] (u ∷ us) s = s
 each_field T (x ∷ xs) [] s = s

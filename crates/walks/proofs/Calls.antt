@@ -5,7 +5,7 @@ use mathlib.Core.Path.{◌≡◌, refl, sym, subst, ap}
 use Prim.Native.Nat.{ℕ, ◌<◌, ◌^◌}
 use mathlib.Core.List.{List, [], ◌∷◌}
 use seplogic.Ra.Ura.{Ura}
-use mir.Syntax.{Name, Place, Opd as Operand, Body, seq, call, named, w64}
+use mir.Syntax.{Callee, Place, Opd as Operand, Body, seq, call, named, w8, w64}
 use mir.Val.{Val, vint}
 use base.Logic.{ent, emp, id⊢}
 use base.Fml.{Lft, Share, Fml, ftrue, flft}
@@ -17,7 +17,7 @@ use types.Kit.{Item, ‵, raw, ◌⊛◌, some, later, mean, Post, runs, lands, 
 use types.Run.{Opds}
 use denote.RattleType.{RattleType, owns}
 use denote.Laws.{Is, Tells, shows}
-use denote.Plain.{uint_Makes}
+use denote.Plain.{uint_Makes, uint_row_laws}
 use denote.Builtin.{u8, usize, SliceRefOf}
 use denote.Exit.{yes}
 use denote.Ref.{Bor}
@@ -34,7 +34,7 @@ module _ {M : Type 1} {𝓤 : Ura M} {𝓛 : Logic 𝓤} {K : Type 0} {Γ : List
   -- any call: the tokens stand at the head, then what the arguments own
   open 𝓛 use {H}
 
-  pub calls_of : (T : Ended) (c : Clauses 𝓤 T) (y : (Asked 𝓛 T c).Ghost) → K → {f : Name} {xs : List Operand} → FmC 𝓤 H 𝓛.laws C → Triple 𝓤 (C f) (Asked 𝓛 T c)
+  pub calls_of : (T : Ended) (c : Clauses 𝓤 T) (y : (Asked 𝓛 T c).Ghost) → K → {f : Callee} {xs : List Operand} → FmC 𝓤 H 𝓛.laws C → Triple 𝓤 (C f) (Asked 𝓛 T c)
       → (tokens : Item 𝓤) → mean 𝓛 tokens ≡ alive 𝓛 T.signature y.0.0 y.0.1 → ent 𝓤 (emp 𝓤) ((c y.0.0 y.0.3).requires y.1) → Opds K 𝓛 (raw ((Asked 𝓛 T c).pre y) ∷ Γ) E xs ((Asked 𝓛 T c).args y)
       → ((v : Val) (r : Res T.signature y.0.0) (ws : Lasts T y.0.0 y.0.3)
       → Seq K 𝓛 (raw ((c y.0.0 y.0.3).ensures y.1 r (at_exit T y.0.0 y.0.3 ws)) ∷ ‵ (lasts T y.0.0 y.0.3 ws) ∷ tokens ∷ ‵ ((type_at T.signature.result y.0.0).own_val r (v ∷ [])) ∷ Γ) (lands C Λ E d v rest p))
@@ -50,9 +50,9 @@ module _ {M : Type 1} {𝓤 : Ura M} {𝓛 : Logic 𝓤} {K : Type 0} {Γ : List
 
   -- what a call gave is plain data that is known: it lands at its machine value
   pub known_as : K → (R : RattleType) (val : R.Denot → Val) → Tells R (Is R) (λ r. val r ∷ []) → {v : Val} {r : R.Denot} (out : R.Denot) → r ≡ out
-      → (Is R out (val out ∷ []) → Seq K 𝓛 Γ (lands C Λ E d (val out) rest p)) → Seq K 𝓛 (‵ (R.own r (v ∷ [])) ∷ Γ) (lands C Λ E d v rest p)
+      → (Is R out (val out ∷ []) → Seq K 𝓛 Γ (lands C Λ E d (val out) rest p)) → Seq K 𝓛 (‵ (R.own_val r (v ∷ [])) ∷ Γ) (lands C Λ E d v rest p)
   known_as t R val tells {v} out e k =
-      rewrite t 0 (λ (z : R.Denot). ‵ (R.own z (v ∷ []))) e refl $ peeks t R (Is R) (shows 𝓛 R) out (v ∷ []) (λ is.
+      rewrite t 0 (λ (z : R.Denot). ‵ (R.own_val z (v ∷ []))) e refl $ peeks t R (Is R) (shows 𝓛 R) out (v ∷ []) (λ is.
       regoal t (λ (z : Val). lands C Λ E d z rest p) (ap only (tells out (v ∷ []) is)) refl $ drop t $ k (subst (Is R out) (tells out (v ∷ []) is) is))
 
 -- `fn(&[u8], usize) -> R`
@@ -73,14 +73,14 @@ bound 𝓛 R c κ q x i g = (((κ, tt), (q, tt), tt, (x, (i, tt)), (shr_slice_va
 module _ {M : Type 1} {𝓤 : Ura M} {𝓛 : Logic 𝓤} (R : RattleType) (val : R.Denot → Val) (tells : Tells R (Is R) (λ r. val r ∷ [])) (c : Clauses 𝓤 (Asking R)) (κ : Lft) (q : Share) (x : Bor (List ℕ)) (i : ℕ) (out : R.Denot) where
   open 𝓛 use {H}
 
-  pub asks : {K : Type 0} {Γ : List (Item 𝓤)} {E : Env 𝓤 H} {C : Calls 𝓤 H} {Λ : Loops 𝓤 H} {p : Post 𝓤 H} {d : Place} {f : Name} {xs : List Operand} {rest : Body}
+  pub asks : {K : Type 0} {Γ : List (Item 𝓤)} {E : Env 𝓤 H} {C : Calls 𝓤 H} {Λ : Loops 𝓤 H} {p : Post 𝓤 H} {d : Place} {f : Callee} {xs : List Operand} {rest : Body}
       → K → FmC 𝓤 H 𝓛.laws C → Triple 𝓤 (C f) (Asked 𝓛 (Asking R) c) → (g : (c (κ, tt) (x, (i, tt))).ghost) → ent 𝓤 (emp 𝓤) ((c (κ, tt) (x, (i, tt))).requires g)
       → ((r : R.Denot) (e : AtExit (Asking R) (κ, tt)) → ent 𝓤 ((c (κ, tt) (x, (i, tt))).ensures g r e) (fact 𝓤 (r ≡ out))) → i < 2 ^ 64
       → Opds K 𝓛 (raw ((Asked 𝓛 (Asking R) c).pre (bound 𝓛 R c κ q x i g)) ∷ ‵ (message κ x) ∷ Γ) E xs ((Asked 𝓛 (Asking R) c).args (bound 𝓛 R c κ q x i g))
       → (Is R out (val out ∷ []) → Seq K 𝓛 (‵ (flft κ q) ∷ ‵ (message κ x) ∷ Γ) (lands C Λ E d (val out) rest p))
       → Seq K 𝓛 (‵ (flft κ q) ∷ ‵ (message κ x) ∷ Γ) (runs C Λ E (seq (call f xs d) rest) p)
   asks {K} t fm known g requires says fits os k =
-      move t (1 ∷ []) $ use1 𝓛 (‵ (message κ x) ⊛ ‵ (message κ x)) ((shr_slice_copy 𝓛 (named 0) κ u8).twice x (shr_slice_vals x)) $ split t $
+      move t (1 ∷ []) $ use1 𝓛 (‵ (message κ x) ⊛ ‵ (message κ x)) ((shr_slice_copy 𝓛 (named 0) κ u8 (uint_row_laws w8)).twice x (shr_slice_vals x)) $ split t $
       nothing t $ owned t usize (Is usize) (uint_Makes 𝓛 w64) i _ (refl, fits) $ fjoin t $ move t (1 ∷ 0 ∷ []) $ fjoin t $ nothing t $ move t (3 ∷ 0 ∷ []) $ join t $
       -- [the token; what the arguments own; the message; ..]
       calls_of (Asking R) c (bound 𝓛 R c κ q x i g) t fm known (‵ (flft κ q) ⊛ ‵ ftrue) refl requires os (λ v r ws.

@@ -6,7 +6,7 @@ use mathlib.Core.Bool.{Bool, not}
 use mathlib.Core.List.{List, [], ◌∷◌}
 use mathlib.Core.Option.{Option, some, none}
 use seplogic.Ra.Ura.{Ura}
-use seplogic.Ra.TreeShare.{full_share}
+use base.Fraction.{full_share}
 use lib.Dec.{T}
 use mir.Syntax.{Ty, place, Opd as Operand, copy, Rv as RValue, Body, skip, seq, assign, cond, exit, Local, local}
 use mir.Val.{Val, vbool, WT, has_ty}

@@ -7,7 +7,7 @@ use mathlib.Core.List.{List, [], ◌∷◌}
 use lib.Dec.{lit<}
 use lib.ListN.{length, get_or, set, length-set}
 use seplogic.Ra.Ura.{Ura}
-use seplogic.Ra.TreeShare.{full_share}
+use base.Fraction.{full_share}
 use mir.Syntax.{erased, deref, place, Opd as Operand, rv_opd, Body, seq, assign}
 use mir.Val.{Val, vptr}
 use base.Logic.{ent}
@@ -47,7 +47,7 @@ offset_fits R k n h room = lt_trans (room_for_fewer R k n (le_of_lt h) room).1 (
 -- the list while element i is out: its cell, what it owns, the others; the open borrow, both halves of the ghost name
 abbrev pub opened : {M : Type 1} {𝓤 : Ura M} → (R : RattleType) → (R.Denot → List Val) → Lft → Share → GName → ℕ → ℕ → List R.Denot → ℕ → R.Denot → List (Item 𝓤) → List (Item 𝓤)
 opened R vals κ q γ b o ys i d Γ =
-    ‵ (cell_at full_share R.mir (vals (get_or ys i d)) b (place_of (mem R).size o i)) ∷ ‵ (R.own (get_or ys i d) (vals (get_or ys i d))) ∷ ‵ (others (shares R) full_share ys i b o)
+    ‵ (cell_at full_share R.mir (vals (get_or ys i d)) b (place_of (mem R).size o i)) ∷ ‵ (R.own_val (get_or ys i d) (vals (get_or ys i d))) ∷ ‵ (others (shares R) full_share ys i b o)
     ∷ ‵ (fobor κ q (Held R (length ys) b o γ)) ∷ ‵ (fobs γ ((coded_holeys R).code (heres R ys))) ∷ ‵ (fauth γ ((coded_holeys R).code (heres R ys))) ∷ Γ
 
 -- `*_j = x`, where local j, at place n of the context after the list and its token, points to element i
