@@ -56,7 +56,8 @@ pub fn put_text(text: &[u8], out: &mut [u8]) -> usize
     requires { length text.now ≤ length out.old }
     ensures { Puts text.now out.old result out.new }
 {
-    bytes::copy(text, out)
+    out[..text.len()].copy_from_slice(text);
+    text.len()
 }
 
 fn put_numbers(first: usize, second: usize, out: &mut [u8]) -> usize

@@ -3,7 +3,7 @@
 
 ghost use Rattle.std.specs.Prelude.{[], ◌≡◌, length};
 ghost use Rattle.refusal.specs.Fills.{FillsOwn};
-ghost use Rattle.code_sets.specs.Reading.{in-set, start_set, decoded};
+ghost use Rattle.code_sets.specs.Reading.{in_set, start_set, decoded};
 ghost use Rattle.code_sets.specs.Readers.{read_on};
 
 use refusal::{Answer, Refusal};
@@ -29,7 +29,7 @@ pub fn text_of(start: usize, values: &[u8], text: &mut [u8]) -> Answer
 // Reads in the set that the start names.
 fn read_from(start: usize, values: &[u8], own: &mut [u8]) -> Answer
     requires { length own.old ≡ 48 }
-    ensures { FillsOwn (read_on [] (in-set (start_set start)) values.now) own.old result own.new }
+    ensures { FillsOwn (read_on [] (in_set (start_set start)) values.now) own.old result own.new }
 {
     match start {
         103 => readers::read_a(values, 0, own, 0),

@@ -4,7 +4,7 @@ ghost use Rattle.std.specs.Prelude.{◌≡◌, true, [], ◌∷◌, ◌+◌, ◌
 ghost use Rattle.character_set_82.specs.Characters.{is_of82};
 ghost use Rattle.refusal.specs.Fills.{FillsOwn};
 ghost use Rattle.code_sets.specs.Sets.{set_a, set_b, set_c};
-ghost use Rattle.code_sets.specs.Reading.{in-set, shifted-from};
+ghost use Rattle.code_sets.specs.Reading.{in_set, shifted_from};
 ghost use Rattle.code_sets.specs.Readers.{read_on, changed, Runs, RunPuts};
 
 use crate::sets;
@@ -27,7 +27,7 @@ pub enum Run {
 #[cycle(read_a_read_b_read_c)]
 pub fn read_a(values: &[u8], from: usize, text: &mut [u8], at: usize) -> Answer
     requires { (from ≤ length values.now) × (length text.old ≡ 48) × (at ≤ 48) }
-    ensures { FillsOwn (read_on (take at text.old) (in-set set_a) (drop from values.now)) text.old result text.new }
+    ensures { FillsOwn (read_on (take at text.old) (in_set set_a) (drop from values.now)) text.old result text.new }
 {
     match run_in(Set::A, values, from, text, at) {
         Run::On(_, n) => Answer::Done(n),
@@ -41,7 +41,7 @@ pub fn read_a(values: &[u8], from: usize, text: &mut [u8], at: usize) -> Answer
 #[cycle(read_a_read_b_read_c)]
 pub fn read_b(values: &[u8], from: usize, text: &mut [u8], at: usize) -> Answer
     requires { (from ≤ length values.now) × (length text.old ≡ 48) × (at ≤ 48) }
-    ensures { FillsOwn (read_on (take at text.old) (in-set set_b) (drop from values.now)) text.old result text.new }
+    ensures { FillsOwn (read_on (take at text.old) (in_set set_b) (drop from values.now)) text.old result text.new }
 {
     match run_in(Set::B, values, from, text, at) {
         Run::On(_, n) => Answer::Done(n),
@@ -55,7 +55,7 @@ pub fn read_b(values: &[u8], from: usize, text: &mut [u8], at: usize) -> Answer
 #[cycle(read_a_read_b_read_c)]
 pub fn read_c(values: &[u8], from: usize, text: &mut [u8], at: usize) -> Answer
     requires { (from ≤ length values.now) × (length text.old ≡ 48) × (at ≤ 48) }
-    ensures { FillsOwn (read_on (take at text.old) (in-set set_c) (drop from values.now)) text.old result text.new }
+    ensures { FillsOwn (read_on (take at text.old) (in_set set_c) (drop from values.now)) text.old result text.new }
 {
     match run_in(Set::C, values, from, text, at) {
         Run::On(_, n) => Answer::Done(n),
@@ -69,7 +69,7 @@ pub fn read_c(values: &[u8], from: usize, text: &mut [u8], at: usize) -> Answer
 // Reads in one set, up to a change, or on to the end of the values.
 fn run_in(set: Set, values: &[u8], from: usize, text: &mut [u8], at: usize) -> Run
     requires { (from ≤ length values.now) × (length text.old ≡ 48) × (at ≤ 48) }
-    ensures { Runs (in-set set) set values.now from text.old at (length values.now) result text.new }
+    ensures { Runs (in_set set) set values.now from text.old at (length values.now) result text.new }
 {
     let mut i = from;
     let mut n = at;
@@ -87,7 +87,7 @@ fn run_in(set: Set, values: &[u8], from: usize, text: &mut [u8], at: usize) -> R
 // Reads one value, or a shift and the value after it.
 fn turn_in(set: Set, values: &[u8], i: usize, text: &mut [u8], n: usize) -> Run
     requires { (i < length values.now) × (length text.old ≡ 48) × (n ≤ 48) }
-    ensures { Runs (in-set set) set values.now i text.old n (i + 1) result text.new }
+    ensures { Runs (in_set set) set values.now i text.old n (i + 1) result text.new }
 {
     let next = i + 1;
     match sets::meaning_in(set, values[i]) {
@@ -113,7 +113,7 @@ fn change_to(next: Set, i: usize, n: usize) -> Run
 // "Shift reads the next character only in the other of A and B; that must be 0 to 95."
 fn shifted_in(set: Set, values: &[u8], i: usize, text: &mut [u8], n: usize) -> Run
     requires { (i ≤ length values.now) × (length text.old ≡ 48) × (n ≤ 48) }
-    ensures { Runs (shifted-from set) set values.now i text.old n i result text.new }
+    ensures { Runs (shifted_from set) set values.now i text.old n i result text.new }
 {
     if values.len() <= i {
         return Run::Stuck;

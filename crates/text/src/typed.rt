@@ -26,7 +26,8 @@ pub fn put_fitting(source: &[u8], out: &mut [u8]) -> usize
     ensures { Puts (take (length out.old) source.now) out.old result out.new }
 {
     let count = lesser(source.len(), out.len());
-    bytes::copy(&source[..count], out)
+    out[..count].copy_from_slice(&source[..count]);
+    count
 }
 
 fn put_replacing(old: u8, new: u8, bytes: &[u8], out: &mut [u8]) -> usize

@@ -1,0 +1,33 @@
+-- `text::widths::put_widths` meets its contract: after i turns i digits stand at the front, and then what stood there.
+use Prim.Native.Nat.{ℕ, ◌+◌, ◌-◌, ◌≤◌}
+use mathlib.Core.Path.{◌≡◌, refl}
+use mathlib.Core.List.{◌++◌}
+use native.Mathlib.Omega.{arith}
+use lib.ListN.{length, take, drop, length-set, length-map}
+use Rattle.laws.proofs.Copying.{mapped_more}
+use Rattle.text.specs.Widths.{run_together}
+use Rattle.text.proofs.PutsLaws.{puts_whole}
+use Rattle.text.proofs.widths.put_widths.Goals as goal
+
+pub loop-i-preserved : goal.loop-i-preserved
+loop-i-preserved c =
+    let loop = c.loop-i in
+    let args = c.args in (
+      omega arith,
+      simp length-set (omega arith),
+      rw loop.invariant.2 (mapped_more (λ (width : ℕ). 48 + width) args.widths.now args.out.now loop.i 0 (omega arith) (omega arith)),
+    )
+
+pub returns : goal.returns
+returns c =
+    let loop = c.loop-i in
+    let args = c.args in
+    record { puts = puts_whole (run_together args.widths.now) args.out.now loop.i loop.out (rw length-map (omega arith)) loop.invariant.2; value = omega arith }
+
+pub loop-i-init : goal.loop-i-init
+loop-i-init c =
+    (omega arith, refl, refl)
+
+pub overflow_add-out : goal.overflow_add-out
+overflow_add-out c =
+    omega (arith, c.requires.below c.loop-i.i (omega arith))

@@ -1,0 +1,17 @@
+use Prim.Native.Nat.{ℕ, ◌+◌, ◌-◌, ◌≤◌}
+use mathlib.Core.Path.{◌≡◌, refl}
+use mathlib.Core.List.{◌++◌}
+use native.Mathlib.Omega.{arith}
+use lib.ListN.{length, take, drop, length-set, length-map}
+use Rattle.laws.proofs.Copying.{mapped_more}
+use Rattle.text.specs.Widths.{run_together}
+use Rattle.text.proofs.PutsLaws.{puts_whole}
+use Rattle.text.proofs.widths.put_widths.Given as goal
+
+abbrev pub invariant-loop-i : goal.invariant-loop-i
+invariant-loop-i l =
+    (l.i ≤ length l.widths) × (length l.out ≡ length l.initial.out) × (l.out ≡ take l.i (run_together l.widths) ++ drop l.i l.initial.out)
+
+abbrev pub decreases-loop-i : goal.decreases-loop-i
+decreases-loop-i l =
+    length l.widths - l.i
