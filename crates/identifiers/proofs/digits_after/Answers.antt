@@ -38,8 +38,8 @@ returns-in_default c =
 pub returns-in_default-2 : goal.returns-in_default-2
 unfolding digits_after place_in first_not
 returns-in_default-2 c =
-    let pair = c.args.pair in let n = pair in
-    let other : eqb n 31 ≡ false = ne_eqb n 31 c.in_default-1.rest.1 in
+    let n = c.args.pair in
+    let other : eqb n 31 ≡ false = ne_eqb n 31 (omega arith) in
     let test : (are 2 n || eqb n 31) ≡ true = in_run (λ (p : ℕ). are 2 p || eqb p 31) 26 14 true tt n (omega arith) (omega arith) in
     sym (eqb-true _ 2 (sym (or-false (are 2 n)) ∙ ap (λ (b : Bool). are 2 n || b) (sym other) ∙ test))
 

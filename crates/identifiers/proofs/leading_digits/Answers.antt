@@ -1,7 +1,6 @@
 -- `identifiers::leading_digits` meets its contract: the first four bytes are all of a shorter list.
 use mathlib.Core.Path.{sym, ap, ◌∙◌}
 use native.Mathlib.Omega.{arith}
-use borrow.Author.Rules.{rules}
 use lib.ListN.{length-take}
 use lib.Seq.{take_all}
 use Rattle.laws.specs.First.{first_not}

@@ -1,10 +1,8 @@
 -- `identifiers::pair_at` meets its contract: two digits make less than 100.
 use Prim.Native.Nat.{ℕ, ◌+◌, ◌*◌, ◌<◌}
 use mathlib.Core.Path.{ap₂}
-use mathlib.Core.List.{List}
 use native.Mathlib.Omega.{arith}
 use lib.ListN.{get_or}
-use borrow.Author.Rules.{rules}
 use Rattle.digits.proofs.DigitLaws.{digit_range}
 use Rattle.identifiers.proofs.pair_at.Goals.{After-value_of-2}
 use Rattle.identifiers.proofs.pair_at.Goals as goal

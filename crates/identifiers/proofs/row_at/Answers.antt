@@ -1,9 +1,7 @@
 -- `identifiers::row_at` meets its contract: the first two digits say how many there are, and the number of so many digits decides.
 use Prim.Native.Nat.{ℕ, ◌+◌, ◌*◌, ◌≤◌}
 use mathlib.Core.Path.{◌≡◌, sym, ap, ap₂, ◌∙◌}
-use mathlib.Core.List.{List}
 use native.Mathlib.Omega.{arith}
-use borrow.Author.Rules.{rules}
 use lib.ListN.{get_or, take}
 use Rattle.laws.specs.First.{first_not}
 use Rattle.digits.specs.Digit.{is_digit}

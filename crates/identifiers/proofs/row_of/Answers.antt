@@ -1,18 +1,17 @@
 -- `identifiers::row_of` meets its contract: each arm is reached by the identifiers of one row, which are computed to have it; what is left
 -- lies between the listed ones.
-use Prim.Native.Nat.{ℕ}
 use mathlib.Core.Path.{◌≡◌, refl, sym, ◌∙◌}
 use mathlib.Core.Bool.{true, false}
 use mathlib.Core.List.{[], ◌∷◌}
-use mathlib.Core.Logic.{inl, ⊎_elim}
+use mathlib.Core.Logic.{inl}
 use native.Mathlib.Omega.{arith}
-use borrow.Author.Rules.{rules}
 use Rattle.laws.specs.First.{first_not}
 use Rattle.identifiers.specs.declared.Content.TheVariants.{DigitsWithCheck, Date, Digits, Text}
 use Rattle.laws.specs.Among.{place_in, among}
 use Rattle.identifiers.specs.Identifiers.{exactly, up_to, measures, table, identifiers_of, listed}
 use Rattle.laws.proofs.AmongLaws.{in_run, all_among}
 use Rattle.identifiers.proofs.RowLaws.{place_in_table, in_row, row_at_place, row_of_keys, not_others, row_of_gap, row_from}
+use Rattle.identifiers.proofs.row_of.Goals.{then-identifier-lt14, else-identifier-lt14+else-identifier-lt15, in-90-1, in_default+else-identifier-lt18+else-identifier-lt240+then-identifier-lt242, in_default-via-then-identifier-lt18+else-identifier-lt3+then-identifier-lt10, in_default-via-then-identifier-lt18+else-identifier-lt3+else-identifier-lt10+else-identifier-lt14+then-identifier-lt15, in_default-via-else-identifier-lt18+then-identifier-lt240, in_default-via-else-identifier-lt18+else-identifier-lt240+else-identifier-lt242+then-identifier-lt410, in_default-via-else-identifier-lt18+else-identifier-lt240+else-identifier-lt242+else-identifier-lt410+else-identifier-lt416}
 use Rattle.identifiers.proofs.row_of.Goals as goal
 
 pub returns-in-0 : goal.returns-in-0
@@ -42,8 +41,8 @@ returns-in-10 c =
 pub returns-in-1 : goal.returns-in-1
 unfolding place_in_table table measures place_in first_not
 returns-in-1 c =
-    let identifier = c.args.identifier in let x = identifier in
-    let other : x ≡ 0 → ⊥ = c.in_default-1.rest.0.0.0.0.1 in
+    let x = c.args.identifier in
+    let other : x ≡ 0 → ⊥ = c.in-1.in_default-own.rest.0.0.0.0.1 in
     row_at_place x 1 (exactly 14 DigitsWithCheck)
     (in_run (in_row 1) 1 2 true tt x (omega arith) (omega arith))
     refl c.exactly-in-1.result c.exactly-in-1.ensures
@@ -59,11 +58,13 @@ returns-in-410 c =
 pub returns-in-11 : goal.returns-in-11
 unfolding place_in_table table measures place_in first_not
 returns-in-11 c =
-    let identifier = c.args.identifier in let x = identifier in
+    let x = c.args.identifier in
     let other : x ≡ 10 → ⊥ = λ e. c.in_default-1.rest.0.1 (inl e) in
     row_at_place x 3 (exactly 6 Date)
-    (⊎_elim (λ w. in_run (in_row 3) 11 3 true tt x (omega arith) (omega arith)) (λ w. in_run (in_row 3) 15 3 true tt x (omega arith) (omega arith))
-    c.in-11-1.branch)
+    (elim c.in-11-1.branch [
+      | then-identifier-lt14 w ↦ in_run (in_row 3) 11 3 true tt x (omega arith) (omega arith)
+      | else-identifier-lt14+else-identifier-lt15 w ↦ in_run (in_row 3) 15 3 true tt x (omega arith) (omega arith)
+    ])
     refl c.exactly-in-11.result c.exactly-in-11.ensures
 
 pub returns-then-is_measure : goal.returns-then-is_measure
@@ -78,22 +79,25 @@ returns-then-is_measure c =
 pub returns-else-is_measure : goal.returns-else-is_measure
 unfolding listed identifiers_of table measures place_in first_not
 returns-else-is_measure c =
-    let identifier = c.args.identifier in let x = identifier in
+    let x = c.args.identifier in
     let rest = c.in_default-1.rest in
     let measure : among measures x ≡ false = sym c.is_measure.ensures ∙ c.if-is_measure.false in
     let other = not_others x rest.0.0.0.0.1 rest.0.0.0.1 rest.0.0.1 rest.0.1 rest.1 measure in
-    ⊎_elim (λ w. row_of_gap 3 10 x refl other (omega arith) (omega arith))
-    (⊎_elim (λ w. row_of_gap 14 15 x refl other (omega arith) (omega arith))
-    (⊎_elim (λ w. row_of_gap 18 240 x refl other (omega arith) (omega arith))
-    (⊎_elim (λ w. row_of_gap 242 410 x refl other (omega arith) (omega arith))
-    (λ w. row_from 416 x refl other (omega arith)))))
-    c.in_default.branch
+    elim c.in_default.branch [
+      | in_default-via-then-identifier-lt18+else-identifier-lt3+then-identifier-lt10 w ↦ row_of_gap 3 10 x refl other (omega arith) (omega arith)
+      | in_default-via-then-identifier-lt18+else-identifier-lt3+else-identifier-lt10+else-identifier-lt14+then-identifier-lt15 w ↦ row_of_gap 14 15 x refl other (omega arith) (omega arith)
+      | in_default-via-else-identifier-lt18+then-identifier-lt240 w ↦ row_of_gap 18 240 x refl other (omega arith) (omega arith)
+      | in_default-via-else-identifier-lt18+else-identifier-lt240+else-identifier-lt242+then-identifier-lt410 w ↦ row_of_gap 242 410 x refl other (omega arith) (omega arith)
+      | in_default-via-else-identifier-lt18+else-identifier-lt240+else-identifier-lt242+else-identifier-lt410+else-identifier-lt416 w ↦ row_from 416 x refl other (omega arith)
+    ]
 
 pub returns-in-240 : goal.returns-in-240
 unfolding place_in_table table measures place_in first_not
 returns-in-240 c =
     let x = c.args.identifier in
     row_at_place x 8 (up_to 30 Text)
-    (⊎_elim (λ w. row_of_keys (90 ∷ 250 ∷ 400 ∷ []) 8 refl x w.keys5) (λ w. in_run (in_row 8) 240 2 true tt x (omega arith) (omega arith))
-    c.in-240-1.branch)
+    (elim c.in-240-1.branch [
+      | in-90-1 w ↦ row_of_keys (90 ∷ 250 ∷ 400 ∷ []) 8 refl x w.in-90-1.keys5
+      | in_default+else-identifier-lt18+else-identifier-lt240+then-identifier-lt242 w ↦ in_run (in_row 8) 240 2 true tt x (omega arith) (omega arith)
+    ])
     refl c.up_to-in-240.result c.up_to-in-240.ensures

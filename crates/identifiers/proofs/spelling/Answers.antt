@@ -1,5 +1,4 @@
 -- `identifiers::spelling` meets its contract: the tests are those of the spelling, and so are the digits.
-use borrow.Author.Rules.{rules}
 use borrow.Author.Tests.{lt-ltb, le-ltb}
 use Rattle.identifiers.specs.Identifiers.{spelled}
 use Rattle.identifiers.proofs.spelling.Goals as goal

@@ -26,4 +26,5 @@ returns-else-year-eq0 c =
 pub returns-in_default : goal.returns-in_default
 unfolding days_in
 returns-in_default c =
-    rw (not_among (4 ∷ 6 ∷ 9 ∷ 11 ∷ []) _ c.in_default-own.rest.0.1, ne_eqb _ 2 c.in_default-own.rest.1)
+    let rest = c.in_default.in_default-own.rest in
+    rw (not_among (4 ∷ 6 ∷ 9 ∷ 11 ∷ []) _ rest.0.1, ne_eqb _ 2 rest.1)

@@ -2,12 +2,10 @@
 use Prim.Native.Nat.{ℕ, ◌+◌, ◌<◌}
 use mathlib.Core.Path.{◌≡◌, sym, ◌∙◌}
 use mathlib.Core.Bool.{true, false}
-use mathlib.Core.List.{List}
 use native.Mathlib.Omega.{arith}
-use borrow.Author.Rules.{rules}
-use borrow.Author.Tests.{not-true, not-false, eqb-true, le-leb, lt-leb}
+use borrow.Author.Tests.{eqb-true, le-leb, lt-leb}
 use lib.ListN.{length, get_or}
-use Rattle.laws.proofs.FirstLaws.{all_pass}
+use Rattle.laws.proofs.FirstLaws.{all_pass as each_passes}
 use Rattle.digits.specs.Digit.{is_digit}
 use Rattle.identifiers.specs.Data.{all_pass, pair_at, is_date}
 use Rattle.identifiers.proofs.contents.is_date.Goals.{After-pair_at-month, Else-not-is_digits}
@@ -25,7 +23,7 @@ all c =
 
 digit : (c : Else-not-is_digits) → (i : ℕ) → i < 6 → is_digit (get_or c.args.bytes.now i 0) ≡ true
 digit c i h =
-    let bytes = c.args.bytes.now in all_pass is_digit bytes (eqb-true _ _ (all c)) i 0 (omega (arith, c.requires))
+    let bytes = c.args.bytes.now in each_passes is_digit bytes (eqb-true _ _ (all c)) i 0 (omega (arith, c.requires))
 
 -- a pair of digits stands at each place that has a next one
 paired : (c : Else-not-is_digits) → (i : ℕ) → i < 5 → (i + 1 < length c.args.bytes.now) × ((is_digit (get_or c.args.bytes.now i 0) ≡ true) × (is_digit (get_or c.args.bytes.now (i + 1) 0) ≡ true))

@@ -1,7 +1,6 @@
 -- `identifiers::contents::is_digits` meets its contract: the first byte that is no digit lies past the end.
 use Prim.Native.Nat.{ℕ}
 use mathlib.Core.Path.{ap}
-use borrow.Author.Rules.{rules}
 use lib.ListN.{length}
 use lib.Dec.{eqb}
 use Rattle.identifiers.proofs.contents.is_digits.Goals as goal

@@ -1,8 +1,5 @@
 -- `identifiers::contents::is_number` meets its contract: the test of a number with its own count passes exactly those.
-use Prim.Native.Nat.{ℕ}
 use mathlib.Core.Path.{sym, ◌∙◌}
-use mathlib.Core.List.{List}
-use borrow.Author.Rules.{rules}
 use lib.ListN.{length}
 use Rattle.digits.proofs.NumberedLaws.{right_done, right_refused}
 use Rattle.identifiers.proofs.DataLaws.{number_right, number_wrong}

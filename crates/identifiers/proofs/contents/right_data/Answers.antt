@@ -1,11 +1,7 @@
 -- `identifiers::contents::right_data` meets its contract: each `return` has the tests of the definition behind it; a kind's sizes are those of its content.
-use Prim.Native.Nat.{ℕ}
 use mathlib.Core.Path.{sym, ◌∙◌}
-use mathlib.Core.List.{List}
 use native.Mathlib.Omega.{arith}
-use borrow.Author.Rules.{rules}
 use borrow.Author.Tests.{le-leb, lt-leb}
-use Rattle.identifiers.specs.declared.Kind.{Kind}
 use Rattle.identifiers.specs.declared.Content.TheVariants.{DigitsWithCheck, Date, Digits, Text}
 use Rattle.identifiers.specs.Data.{passes, right_data}
 use Rattle.identifiers.proofs.DataLaws.{right_by_content, sized_number, sized_date}
