@@ -6,7 +6,7 @@
 ghost use Rattle.std.specs.Prelude.{◌≡◌, ◌++◌, ◌+◌, ◌≤◌, ◌<◌, min, length, take, drop};
 ghost use Rattle.blocks.specs.Blocks.{filled, Holds};
 
-use libc::{STDERR_FILENO, STDIN_FILENO, STDOUT_FILENO};
+use std::io::Read;
 
 // The front of the input: `held` bytes of a line that the blocks before have begun, and `more` bytes that were read after them. A proved
 // loop has to end, and nothing says that the input does, so blocks are counted down, from a number that no run uses up: where none is
@@ -18,15 +18,21 @@ pub struct Block {
     pub left: u64,
 }
 
-pub fn first(input: &mut [u8]) -> Block
+pub fn first(rt: &(impl Input + Eprint), input: &mut [u8]) -> Block
     requires { 0 < length input.old }
     ensures { filled result ≤ length input.old }
 {
-    read_after(0, input, u64::MAX)
+    read_after(rt, 0, input, u64::MAX)
 }
 
 // Holds what a block has from `start` on, `most` bytes of it at the most, and takes the block that goes on with it.
-pub fn next(input: &mut [u8], block: Block, start: usize, most: usize) -> Block
+pub fn next(
+    rt: &(impl Input + Eprint),
+    input: &mut [u8],
+    block: Block,
+    start: usize,
+    most: usize,
+) -> Block
     requires left_nonzero { (0 < block.left) × (start ≤ filled block) × (filled block ≤ length input.old) }
     requires most_in_bounds { most < length input.old }
     ensures holds { Holds (take (filled block) input.old) start most result.held input.new }
@@ -34,7 +40,7 @@ pub fn next(input: &mut [u8], block: Block, start: usize, most: usize) -> Block
 {
     let held = lesser(block.held + block.more - start, most);
     keep(input, start, held);
-    read_after(held, &mut input[held..], block.left - 1)
+    read_after(rt, held, &mut input[held..], block.left - 1)
 }
 
 // Where no more is to be taken.
@@ -45,29 +51,27 @@ pub fn none() -> Block
 }
 
 // Writes answers out, and tells whether that was done. Where it can't be, standard error says so.
-pub fn write_out(answers: &[u8]) -> bool {
-    if io::write_all(STDOUT_FILENO, answers) {
+pub fn write_out(rt: &(impl Print + Eprint), answers: &[u8]) -> bool {
+    if rt.write_all(answers).is_ok() {
         return true;
     }
-    io::write_all(STDERR_FILENO, b"error: the output can't be written\n");
+    let _ = eprintln!(rt; "error: the output can't be written");
     false
 }
 
 // Reads after the bytes held, unless no block is left. Where the input ends, bytes that are held are a line too: they are the last block, with
 // the byte 10 that ends them. Where reading fails they may be a part of one, and there is no block.
-fn read_after(held: usize, space: &mut [u8], left: u64) -> Block
+fn read_after(rt: &(impl Input + Eprint), held: usize, space: &mut [u8], left: u64) -> Block
     requires { 0 < length space.old }
     ensures { (result.held ≡ held) × (result.more ≤ length space.old) × (result.left ≤ left) }
 {
     if left == 0 {
         return without_more(held);
     }
-    let got = libc::read(STDIN_FILENO, space);
-    if got < 0 {
-        io::write_all(STDERR_FILENO, b"error: the input can't be read\n");
+    let Ok(more) = rt.reader().read(space) else {
+        let _ = eprintln!(rt; "error: the input can't be read");
         return without_more(held);
-    }
-    let more = io::count(got, space);
+    };
     if 0 < more {
         return Block { held, more, left };
     }

@@ -3,12 +3,13 @@
 
 use gs1_128::Gs1128;
 use refusal::Answer;
+use std::io;
 
-fn main() {
+fn main(rt: HostRuntime) -> io::Result<()> {
     let mut message = [0u8; 48];
     let mut widths = [0u8; Gs1128::WRITTEN];
-    print(draw_carton(b"ABC123", &mut message, &mut widths));
-    print(draw_carton(b"", &mut message, &mut widths));
+    print(&rt, draw_carton(b"ABC123", &mut message, &mut widths))?;
+    print(&rt, draw_carton(b"", &mut message, &mut widths))
 }
 
 // Draws a symbol of the carton's GTIN and a batch: the count of widths, or the first refusal.
@@ -24,16 +25,13 @@ fn draw_carton(batch: &[u8], message: &mut [u8], widths: &mut [u8]) -> Answer {
     Gs1128::write(&message[..count], widths)
 }
 
-fn print(answer: Answer) {
+fn print(rt: &impl Print, answer: Answer) -> io::Result<()> {
     match answer {
-        Answer::Done(count) => print_line(0, count),
-        Answer::Refused(refusal) => print_line(refusal.number(), refusal.place()),
+        Answer::Done(count) => print_line(rt, 0, count),
+        Answer::Refused(refusal) => print_line(rt, refusal.number(), refusal.place()),
     }
 }
 
-fn print_line(first: usize, second: usize) {
-    io::print_decimal(1, first as u64);
-    io::write_all(1, b" ");
-    io::print_decimal(1, second as u64);
-    io::write_all(1, b"\n");
+fn print_line(rt: &impl Print, first: usize, second: usize) -> io::Result<()> {
+    println!(rt; "{first} {second}")
 }

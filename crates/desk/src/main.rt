@@ -13,6 +13,9 @@ mod block;
 // So many bytes of a line that hasn't ended tell that it is too long, whatever it goes on with.
 const OVER: usize = 4097;
 
+// Bytes of room for the input, and for the answers: enough that little time goes to the calls that read and write.
+const ROOM: usize = 65536;
+
 // Where the first line begins that isn't answered yet, and whether the answers could be written.
 #[derive(Clone, Copy)]
 struct Passed {
@@ -20,44 +23,49 @@ struct Passed {
     written: bool,
 }
 
-fn main() {
-    let mut input = io::large_buffer();
-    let mut output = io::large_buffer();
-    serve(&mut input, &mut output);
+fn main(rt: HostRuntime) {
+    let mut input = [0u8; ROOM];
+    let mut output = [0u8; ROOM];
+    serve(&rt, &mut input, &mut output);
 }
 
-fn serve(input: &mut [u8], output: &mut [u8])
+fn serve(rt: &(impl Input + Print + Eprint), input: &mut [u8], output: &mut [u8])
     requires { 4097 < length input.old }
 {
-    let mut block = blocks::first(input);
+    let mut block = blocks::first(rt, input);
     while 0 < block.left {
-        block = take_block(block, input, output);
+        block = take_block(rt, block, input, output);
     }
 }
 
 // Answers the lines that end in a block, and takes the next one, unless the answers can't be written.
-fn take_block(block: Block, input: &mut [u8], output: &mut [u8]) -> Block
+fn take_block(
+    rt: &(impl Input + Print + Eprint),
+    block: Block,
+    input: &mut [u8],
+    output: &mut [u8],
+) -> Block
     requires left_nonzero { (0 < block.left) × (filled block ≤ length input.old) }
     requires in_bounds { 4097 < length input.old }
     ensures { (filled result ≤ length input.old) × (result.left < block.left) }
 {
     let end = block.held + block.more;
-    let passed = answer_block(&input[0..end], output);
+    let passed = answer_block(rt, &input[0..end], output);
     if !passed.written {
         return blocks::none();
     }
-    blocks::next(input, block, passed.start, OVER)
+    blocks::next(rt, input, block, passed.start, OVER)
 }
 
 // Answers each line that ends in a block, with one write for as many as `output` holds, and gives the place where the line after the last
 // of them begins. It stops at a write that fails.
-fn answer_block(block: &[u8], output: &mut [u8]) -> Passed
+fn answer_block(rt: &(impl Print + Eprint), block: &[u8], output: &mut [u8]) -> Passed
     ensures { result.start ≤ length block.now }
 {
     let mut done = block::answer_lines(block, 0, output);
     while 0 < done.put {
         let put = done.put;
-        if !blocks::write_out(&output[0..put]) {
+        if !blocks::write_out(rt, &output[0..put]) {
             return Passed {
                 start: done.next,
                 written: false,

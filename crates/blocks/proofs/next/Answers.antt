@@ -1,0 +1,11 @@
+-- `blocks::next` meets its contract: what was moved to the front stays there, since the next block is read after it.
+use Rattle.blocks.specs.Blocks.{filled}
+use Rattle.blocks.proofs.HoldsLaws.{holds_after}
+use Rattle.blocks.proofs.next.Goals as goal
+
+pub returns-clause-holds : goal.returns-clause-holds
+returns-clause-holds g c =
+    let args = c.args in
+    let within = c.requires.left_nonzero in
+    let held = c.lesser-held in
+    rw c.read_after.ensures.0 (holds_after args.input.now (filled args.block) args.start args.most held.result within.2 within.1 held.ensures c.keep.new.bytes c.keep.ensures c.read_after.new.space)

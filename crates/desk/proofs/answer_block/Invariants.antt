@@ -1,0 +1,14 @@
+-- `desk::answer_block` is safe and ends: as long as answers are put, the next line begins later.
+use Prim.Native.Nat.{◌+◌, ◌-◌, ◌*◌, ◌≤◌, min}
+use mathlib.Core.Path.{◌≡◌}
+use lib.ListN.{length}
+use Rattle.desk.proofs.answer_block.Given as goal
+
+abbrev pub invariant-loop-done : goal.invariant-loop-done
+invariant-loop-done g l =
+    (length l.output ≡ length l.initial.output) × (l.done.next ≤ length l.block) × (l.done.put ≤ length l.output)
+
+-- the bytes that are left, each counted twice, and whether something was put
+abbrev pub decreases-loop-done : goal.decreases-loop-done
+decreases-loop-done g l =
+    2 * (length l.block - l.done.next) + min 1 l.done.put
