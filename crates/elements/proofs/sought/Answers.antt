@@ -1,11 +1,10 @@
 -- `elements::sought` meets its contract: the strings passed have other identifiers, so the string sought is the one sought among those
 -- that are left.
-use Prim.Native.Nat.{ℕ, ◌+◌, ◌-◌, ◌≤◌}
+use Prim.Native.Nat.{◌+◌, ◌≤◌}
 use mathlib.Core.Path.{◌≡◌, refl, sym, ap, ◌∙◌}
 use mathlib.Core.Bool.{false}
 use mathlib.Core.List.{List, []}
 use native.Mathlib.Omega.{arith}
-use borrow.Author.Rules.{rules}
 use lib.ListN.{length}
 use Rattle.refusal.specs.Outcome.{made}
 use Rattle.elements.specs.declared.Element.{Element}

@@ -1,17 +1,11 @@
-use Prim.Native.Nat.{ℕ, ◌+◌, ◌-◌, ◌≤◌}
-use mathlib.Core.Path.{◌≡◌, refl, sym, ap, ◌∙◌}
-use mathlib.Core.Bool.{false}
-use mathlib.Core.List.{List, []}
-use native.Mathlib.Omega.{arith}
-use borrow.Author.Rules.{rules}
+use Prim.Native.Nat.{◌-◌, ◌≤◌}
+use mathlib.Core.Path.{◌≡◌}
+use mathlib.Core.List.{List}
 use lib.ListN.{length}
 use Rattle.refusal.specs.Outcome.{made}
 use Rattle.elements.specs.declared.Element.{Element}
-use Rattle.elements.specs.Found.{found_of}
-use Rattle.elements.specs.Strings.{string_at, parsed}
-use Rattle.elements.proofs.StringLaws.{next_within}
-use Rattle.elements.proofs.CountLaws.{found_string, found_refused}
-use Rattle.elements.proofs.WalkLaws.{from_start, Left, never_refused, left_here, left_last, left_more}
+use Rattle.elements.specs.Strings.{parsed}
+use Rattle.elements.proofs.WalkLaws.{Left}
 use Rattle.elements.proofs.sought.Given as goal
 
 abbrev pub invariant-loop-element : goal.invariant-loop-element

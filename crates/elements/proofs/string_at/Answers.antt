@@ -6,11 +6,8 @@ use mathlib.Core.List.{List}
 use mathlib.Core.Option.{some}
 use native.Mathlib.Nat.{add-sub_cancel_left}
 use native.Mathlib.Omega.{arith}
-use borrow.Author.Rules.{rules}
-use borrow.Author.Tests.{not-true, not-false}
 use lib.ListN.{length, take, drop, length-drop}
 use Rattle.elements.specs.declared.Found.TheVariants.{String}
-use Rattle.identifiers.specs.declared.Kind.{Kind}
 use Rattle.identifiers.specs.Identifiers.{kind_of, spelled, identifier_in}
 use Rattle.identifiers.specs.Data.{right_data}
 use Rattle.elements.specs.Strings.{data_of}

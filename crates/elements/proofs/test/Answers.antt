@@ -1,9 +1,7 @@
 -- `elements::test` meets its contract: the tests that led to each `return` are those of the rule's lines.
 use Prim.Native.Nat.{ℕ}
 use mathlib.Core.Path.{◌≡◌, ap}
-use mathlib.Core.List.{List}
 use native.Mathlib.Omega.{arith}
-use borrow.Author.Rules.{rules}
 use borrow.Author.Tests.{le-leb, lt-leb, eq-eqb, ne_eqb}
 use lib.ListN.{length}
 use Rattle.laws.specs.First.{first_not}

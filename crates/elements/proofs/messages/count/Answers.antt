@@ -1,18 +1,16 @@
 -- `elements::messages::count` meets its contract: at each turn the answer is that of the rule from here on, with the strings passed
 -- counted and their identifiers used; each string that another one follows takes four bytes, so that 48 bytes fill at most 12 places.
-use Prim.Native.Nat.{ℕ, suc, ◌+◌, ◌-◌, ◌*◌, ◌≤◌, ◌<◌}
+use Prim.Native.Nat.{ℕ, suc, ◌+◌, ◌-◌, ◌≤◌, ◌<◌}
 use mathlib.Core.Path.{◌≡◌, refl, sym, ap, ap₂, ◌∙◌}
 use mathlib.Core.Bool.{false}
 use mathlib.Core.List.{List, [], ◌∷◌, ◌++◌}
 use native.Mathlib.Nat.{sub-zero}
 use native.Mathlib.Numerals.{add-one}
 use native.Mathlib.Omega.{arith}
-use borrow.Author.Rules.{rules}
 use lib.ListN.{length, take, set, length-take, length-set}
 use lib.Seq.{take-suc-set}
 use Rattle.refusal.specs.Outcome.{made, refused}
 use Rattle.refusal.specs.Fills.{answer_of}
-use Rattle.elements.specs.declared.Element.{Element}
 use Rattle.laws.specs.Among.{among}
 use Rattle.elements.specs.Strings.{string_at, strings_from, parsed}
 use Rattle.elements.proofs.StringLaws.{next_within}

@@ -1,20 +1,9 @@
-use Prim.Native.Nat.{ℕ, suc, ◌+◌, ◌-◌, ◌*◌, ◌≤◌, ◌<◌}
-use mathlib.Core.Path.{◌≡◌, refl, sym, ap, ap₂, ◌∙◌}
-use mathlib.Core.Bool.{false}
-use mathlib.Core.List.{List, [], ◌∷◌, ◌++◌}
-use native.Mathlib.Nat.{sub-zero}
-use native.Mathlib.Numerals.{add-one}
-use native.Mathlib.Omega.{arith}
-use borrow.Author.Rules.{rules}
-use lib.ListN.{length, take, set, length-take, length-set}
-use lib.Seq.{take-suc-set}
-use Rattle.refusal.specs.Outcome.{made, refused}
+use Prim.Native.Nat.{suc, ◌-◌, ◌*◌, ◌≤◌}
+use mathlib.Core.Path.{◌≡◌}
+use lib.ListN.{length, take}
 use Rattle.refusal.specs.Fills.{answer_of}
-use Rattle.elements.specs.declared.Element.{Element}
-use Rattle.laws.specs.Among.{among}
-use Rattle.elements.specs.Strings.{string_at, strings_from, parsed}
-use Rattle.elements.proofs.StringLaws.{next_within}
-use Rattle.elements.proofs.CountLaws.{counted, counted_none, found_string, found_refused, from_refused, from_repeated, from_last, from_more}
+use Rattle.elements.specs.Strings.{strings_from, parsed}
+use Rattle.elements.proofs.CountLaws.{counted}
 use Rattle.elements.proofs.messages.count.Given as goal
 
 abbrev pub invariant-loop-element : goal.invariant-loop-element

@@ -1,13 +1,10 @@
 -- `elements::messages::is_among` meets its contract: the identifier is met at the first place that is its own, or the end is.
-use Prim.Native.Nat.{ℕ, ◌+◌, ◌-◌, ◌≤◌}
 use mathlib.Core.Path.{◌≡◌, sym, ap}
-use mathlib.Core.Bool.{Bool, true, false, not}
+use mathlib.Core.Bool.{true, false}
 use mathlib.Core.List.{[]}
 use native.Mathlib.Numerals.{add-one}
 use native.Mathlib.Omega.{arith}
 use lib.ListN.{length, get_or, drop, drop_of_length-le}
-use lib.Dec.{eqb}
-use borrow.Author.Rules.{rules}
 use borrow.Author.Tests.{eq-eqb, ne_eqb, lt-ltb, le-ltb}
 use Rattle.laws.specs.First.{first_not}
 use Rattle.laws.proofs.FirstLaws.{first_of_nil, first_stops, first_goes}

@@ -1,11 +1,7 @@
 -- `elements::strings::data_length` meets its contract: the tests are those of the definition.
-use Prim.Native.Nat.{ℕ}
 use mathlib.Core.Path.{sym, ◌∙◌}
-use mathlib.Core.List.{List}
 use native.Mathlib.Omega.{arith}
-use borrow.Author.Rules.{rules}
 use borrow.Author.Tests.{not-true, not-false}
-use Rattle.identifiers.specs.declared.Kind.{Kind}
 use Rattle.character_set_82.specs.Characters.{to_separator}
 use Rattle.elements.proofs.StringLaws.{data_to_separator, data_of_short, data_of_long}
 use Rattle.elements.proofs.strings.data_length.Goals as goal

@@ -1,5 +1,4 @@
 -- `elements::strings::next_after` meets its contract: the test is the definition's.
-use borrow.Author.Rules.{rules}
 use Rattle.elements.specs.Strings.{next_after}
 use Rattle.elements.proofs.strings.next_after.Goals as goal
 
