@@ -1,5 +1,4 @@
 -- `text::put_apart` meets its contract: the first number and the byte stand at the front, and the second number after them.
-use mathlib.Core.Path.{◌∙◌}
 use native.Mathlib.Omega.{arith}
 use lib.ListN.{length-set, length-drop, length-take}
 use borrow.Author.Rules.{rules}
@@ -9,11 +8,6 @@ use Rattle.text.proofs.put_apart.Goals as goal
 pub put_number-requires : goal.put_number-requires
 put_number-requires c =
     simp (length-take, length-drop, length-set) (omega arith)
-
-pub shape_of-out : goal.shape_of-out
-shape_of-out c =
-    let first = c.put_number-at in
-    c.out-2-1.given.1 ∙ length-set first.new.out first.result _ ∙ first.auto.out
 
 pub returns : goal.returns
 returns c =
