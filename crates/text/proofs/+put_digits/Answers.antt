@@ -1,5 +1,5 @@
 -- `text::put_digits` meets its contract: a number below ten is one byte; any other is its tenth part, which is smaller, and one byte more.
-use Prim.Native.Nat.{ℕ, ◌≤◌}
+use Prim.Native.Nat.{◌≤◌}
 use mathlib.Core.List.{[]}
 use native.Mathlib.Omega.{arith}
 use Rattle.text.specs.Decimal.{last_of}

@@ -1,17 +1,9 @@
-use Prim.Native.Nat.{ℕ, suc, ◌+◌, ◌-◌, ◌*◌, ◌≤◌, min}
-use mathlib.Core.Path.{◌≡◌, refl, sym, ap, ◌∙◌}
-use native.Mathlib.Nat.{min-eq_left}
-use native.Mathlib.Numerals.{add-one}
-use native.Mathlib.Omega.{arith}
-use lib.ListN.{length, get_or, drop}
-use lib.Seq.{drop-length}
-use borrow.Author.Tests.{le-leb, lt-leb, eq-eqb, ne_eqb}
+use Prim.Native.Nat.{◌-◌, ◌≤◌, min}
+use mathlib.Core.Path.{◌≡◌}
+use lib.ListN.{length, drop}
 use Rattle.laws.specs.First.{first_not}
-use Rattle.digits.specs.Digit.{is_digit, value_of}
-use Rattle.digits.proofs.DigitLaws.{digit_at, all_digits}
-use Rattle.text.specs.declared.Number.TheVariants.{Is}
-use Rattle.text.specs.Numeral.{number_from, capped_in}
-use Rattle.text.proofs.NumeralLaws.{number_of_nil, number_more, capped_more}
+use Rattle.digits.specs.Digit.{is_digit}
+use Rattle.text.specs.Numeral.{number_from}
 use Rattle.text.proofs.capped_in.Given as goal
 
 abbrev pub invariant-loop-i : goal.invariant-loop-i

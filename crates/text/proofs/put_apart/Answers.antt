@@ -1,7 +1,6 @@
 -- `text::put_apart` meets its contract: the first number and the byte stand at the front, and the second number after them.
 use native.Mathlib.Omega.{arith}
 use lib.ListN.{length-set, length-drop, length-take}
-use borrow.Author.Rules.{rules}
 use Rattle.text.proofs.PutsLaws.{puts_more, puts_then}
 use Rattle.text.proofs.put_apart.Goals as goal
 

@@ -1,6 +1,5 @@
 -- `text::put_number` meets its contract: 20 digits hold every number of 64 bits.
 use native.Mathlib.Omega.{arith}
-use borrow.Author.Rules.{rules}
 use Rattle.text.proofs.DecimalLaws.{length_of_decimal}
 use Rattle.text.proofs.put_number.Goals as goal
 

@@ -1,11 +1,7 @@
 -- `text::put_record` meets its contract: a space, two numbers and a colon stand at the front, and the third number after them.
-use Prim.Native.Nat.{ℕ, ◌+◌, ◌-◌, ◌≤◌}
-use mathlib.Core.Path.{◌≡◌, ◌∙◌}
-use mathlib.Core.List.{List, []}
+use mathlib.Core.List.{[]}
 use native.Mathlib.Omega.{arith}
-use lib.ListN.{length, set, length-set, length-drop, length-take}
-use borrow.Author.Rules.{rules}
-use borrow.Rule.Slice.PartMut.{put_mid}
+use lib.ListN.{length-set, length-drop, length-take}
 use Rattle.text.proofs.PutsLaws.{puts_none, puts_more, puts_then}
 use Rattle.text.proofs.put_record.Goals as goal
 
@@ -29,4 +25,3 @@ slice_bounds-put_apart-count c =
 pub slice_bounds-put_apart-start : goal.slice_bounds-put_apart-start
 slice_bounds-put_apart-start c =
     simp length-set (omega arith)
-

@@ -1,10 +1,9 @@
 -- `text::typed::put_replacing` meets its contract: after i turns the front holds i bytes, replaced, and then what it held, and the loop
 -- ends where the shorter of the two lists does.
-use Prim.Native.Nat.{◌-◌, ◌≤◌}
-use mathlib.Core.Path.{◌≡◌, refl}
-use mathlib.Core.List.{◌++◌, map}
+use mathlib.Core.Path.{refl}
+use mathlib.Core.List.{map}
 use native.Mathlib.Omega.{arith}
-use lib.ListN.{length, take, drop, length-set, length-map}
+use lib.ListN.{length-set, length-map}
 use borrow.Author.Tests.{ltb-true, ltb-false}
 use Rattle.laws.proofs.Copying.{mapped_more}
 use Rattle.text.specs.Typed.{replacing}

@@ -1,12 +1,8 @@
 use Prim.Native.Nat.{◌-◌, ◌≤◌}
-use mathlib.Core.Path.{◌≡◌, refl}
+use mathlib.Core.Path.{◌≡◌}
 use mathlib.Core.List.{◌++◌, map}
-use native.Mathlib.Omega.{arith}
-use lib.ListN.{length, take, drop, length-set, length-map}
-use borrow.Author.Tests.{ltb-true, ltb-false}
-use Rattle.laws.proofs.Copying.{mapped_more}
+use lib.ListN.{length, take, drop}
 use Rattle.text.specs.Typed.{replacing}
-use Rattle.text.proofs.PutsLaws.{puts_fitting}
 use Rattle.text.proofs.typed.put_replacing.Given as goal
 
 abbrev pub invariant-loop-i : goal.invariant-loop-i

@@ -1,14 +1,12 @@
 -- `text::widths::digits_in` meets its contract: after i turns i bytes are digits and their values stand at the front, and the first byte
 -- that is none is counted from there.
-use Prim.Native.Nat.{ℕ, ◌+◌, ◌-◌, ◌≤◌}
 use mathlib.Core.Path.{◌≡◌, refl, sym, ap, ◌∙◌}
 use mathlib.Core.Bool.{true, false}
-use mathlib.Core.List.{List, [], map}
+use mathlib.Core.List.{[], map}
 use native.Mathlib.Numerals.{add-one}
 use native.Mathlib.Omega.{arith}
 use lib.ListN.{length, get_or, take, drop, length-set, length-map, drop_of_length-le}
 use lib.Seq.{take_all}
-use borrow.Author.Tests.{not-true, not-false}
 use Rattle.laws.specs.First.{first_not}
 use Rattle.laws.proofs.FirstLaws.{first_of_nil, first_stops, first_goes}
 use Rattle.digits.specs.Digit.{is_digit, value_of}

@@ -2,16 +2,15 @@
 -- and a turn takes one word. Each takes a byte or more, so there are no more of them than bytes and one.
 use Prim.Native.Nat.{◌-◌}
 use mathlib.Core.Path.{◌≡◌, refl, sym, ◌∙◌}
-use mathlib.Core.List.{List}
 use native.Mathlib.Numerals.{add-one}
 use native.Mathlib.Omega.{arith}
-use lib.ListN.{length, take, drop, length-set}
+use lib.ListN.{take, drop, length-set}
 use lib.Seq.{take-suc-set}
 use Rattle.text.specs.declared.Number.TheVariants.{Is}
 use Rattle.text.specs.Numeral.{number_in}
 use Rattle.text.specs.Widths.{numbers_in}
 use Rattle.text.proofs.NumeralLaws.{number_within}
-use Rattle.text.proofs.WidthsLaws.{takes_none, takes_front, prepend, left, left_all, left_none, left_more, left_unread}
+use Rattle.text.proofs.WidthsLaws.{takes_none, takes_front, left_all, left_none, left_more, left_unread}
 use Rattle.text.proofs.widths.numbers_in.Goals as goal
 
 pub loop-from-init : goal.loop-from-init
@@ -23,7 +22,7 @@ returns-in_default c =
     let typed = c.args.typed.now in
     let loop = c.loop-from in
     let unread =
-        left_unread typed loop.from c.word_end-end.result (omega arith) c.word_end-end.ensures.value (take loop.count loop.widths) (sym c.in_default.is ∙ c.number_in.ensures) in
+    left_unread typed loop.from c.word_end-end.result (omega arith) c.word_end-end.ensures.value (take loop.count loop.widths) (sym c.in_default.is ∙ c.number_in.ensures) in
     takes_none (numbers_in typed) loop.widths (loop.invariant.3 ∙ unread)
 
 pub overflow_cast-widths : goal.overflow_cast-widths
@@ -38,7 +37,7 @@ loop-from-preserved c =
     let loop = c.loop-from in
     let width = c.in-Is.width in
     let more =
-        left_more typed loop.from c.word_end-end.result (omega arith) c.word_end-end.ensures.value (take loop.count loop.widths) width (sym c.in-Is.is ∙ c.number_in.ensures) in (
+    left_more typed loop.from c.word_end-end.result (omega arith) c.word_end-end.ensures.value (take loop.count loop.widths) width (sym c.in-Is.is ∙ c.number_in.ensures) in (
       omega arith,
       omega arith,
       simp length-set (omega arith),

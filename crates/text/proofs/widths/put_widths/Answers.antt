@@ -1,9 +1,8 @@
 -- `text::widths::put_widths` meets its contract: after i turns i digits stand at the front, and then what stood there.
-use Prim.Native.Nat.{ℕ, ◌+◌, ◌-◌, ◌≤◌}
-use mathlib.Core.Path.{◌≡◌, refl}
-use mathlib.Core.List.{◌++◌}
+use Prim.Native.Nat.{ℕ, ◌+◌}
+use mathlib.Core.Path.{refl}
 use native.Mathlib.Omega.{arith}
-use lib.ListN.{length, take, drop, length-set, length-map}
+use lib.ListN.{length-set, length-map}
 use Rattle.laws.proofs.Copying.{mapped_more}
 use Rattle.text.specs.Widths.{run_together}
 use Rattle.text.proofs.PutsLaws.{puts_whole}

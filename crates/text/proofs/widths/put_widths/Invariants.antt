@@ -1,11 +1,8 @@
-use Prim.Native.Nat.{ℕ, ◌+◌, ◌-◌, ◌≤◌}
-use mathlib.Core.Path.{◌≡◌, refl}
+use Prim.Native.Nat.{◌-◌, ◌≤◌}
+use mathlib.Core.Path.{◌≡◌}
 use mathlib.Core.List.{◌++◌}
-use native.Mathlib.Omega.{arith}
-use lib.ListN.{length, take, drop, length-set, length-map}
-use Rattle.laws.proofs.Copying.{mapped_more}
+use lib.ListN.{length, take, drop}
 use Rattle.text.specs.Widths.{run_together}
-use Rattle.text.proofs.PutsLaws.{puts_whole}
 use Rattle.text.proofs.widths.put_widths.Given as goal
 
 abbrev pub invariant-loop-i : goal.invariant-loop-i

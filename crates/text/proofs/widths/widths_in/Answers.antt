@@ -1,6 +1,4 @@
 -- `text::widths::widths_in` meets its contract: its test is the rule's, and each of the two that it calls promises its own case.
-use Prim.Native.Nat.{ℕ}
-use mathlib.Core.List.{List}
 use native.Mathlib.Omega.{arith}
 use lib.ListN.{length}
 use borrow.Author.Tests.{eq-eqb, ne_eqb}
