@@ -1,6 +1,5 @@
 -- `text::typed::put_replacing` meets its contract: after i turns the front holds i bytes, replaced, and then what it held, and the loop
 -- ends where the shorter of the two lists does.
-use mathlib.Core.Path.{refl}
 use mathlib.Core.List.{map}
 use native.Mathlib.Omega.{arith}
 use lib.ListN.{length-set, length-map}
@@ -31,23 +30,3 @@ returns-after-loop-i c =
     let loop = c.loop-i in
     let args = c.args in
     record { puts = puts_fitting (map (replacing args.old args.new) args.bytes.now) args.out.now loop.i loop.out (rw length-map (omega arith)) loop.invariant.3; value = omega arith }
-
-pub loop-i-init : goal.loop-i-init
-loop-i-init c =
-    (omega arith, omega arith, refl, refl)
-
-pub bounds-bytes-i : goal.bounds-bytes-i
-bounds-bytes-i c =
-    omega (arith, ltb-true)
-
-pub bounds-out-i : goal.bounds-out-i
-bounds-out-i c =
-    omega (arith, ltb-true)
-
-pub overflow_add-i : goal.overflow_add-i
-overflow_add-i c =
-    omega (arith, ltb-true)
-
-pub loop-i-smaller : goal.loop-i-smaller
-loop-i-smaller c =
-    omega (arith, ltb-true)

@@ -1,6 +1,6 @@
 -- `text::widths::digits_in` meets its contract: after i turns i bytes are digits and their values stand at the front, and the first byte
 -- that is none is counted from there.
-use mathlib.Core.Path.{◌≡◌, refl, sym, ap, ◌∙◌}
+use mathlib.Core.Path.{◌≡◌, sym, ap, ◌∙◌}
 use mathlib.Core.Bool.{true, false}
 use mathlib.Core.List.{[], map}
 use native.Mathlib.Numerals.{add-one}
@@ -42,10 +42,6 @@ returns c =
     let none : first_not is_digit typed ≡ length typed = omega (arith, ap (first_not is_digit) over, first_of_nil is_digit) in
     let front : take loop.i loop.widths ≡ map value_of typed = loop.invariant.3 ∙ take_all loop.i (map value_of typed) (rw length-map (omega arith)) in
     takes_front (digits_in typed) loop.i loop.widths (omega arith) (rw front (digits_all typed none))
-
-pub loop-i-init : goal.loop-i-init
-loop-i-init c =
-    (omega arith, refl, omega arith, refl)
 
 pub overflow_sub-widths : goal.overflow_sub-widths
 overflow_sub-widths c =

@@ -21,8 +21,7 @@ pub returns-in_default : goal.returns-in_default
 returns-in_default c =
     let typed = c.args.typed.now in
     let loop = c.loop-from in
-    let unread =
-    left_unread typed loop.from c.word_end-end.result (omega arith) c.word_end-end.ensures.value (take loop.count loop.widths) (sym c.in_default.is ∙ c.number_in.ensures) in
+    let unread = left_unread typed loop.from c.word_end-end.result (omega arith) c.word_end-end.ensures.value (take loop.count loop.widths) (sym c.in_default.is ∙ c.number_in.ensures) in
     takes_none (numbers_in typed) loop.widths (loop.invariant.3 ∙ unread)
 
 pub overflow_cast-widths : goal.overflow_cast-widths
@@ -36,8 +35,7 @@ loop-from-preserved c =
     let typed = c.args.typed.now in
     let loop = c.loop-from in
     let width = c.in-Is.width in
-    let more =
-    left_more typed loop.from c.word_end-end.result (omega arith) c.word_end-end.ensures.value (take loop.count loop.widths) width (sym c.in-Is.is ∙ c.number_in.ensures) in (
+    let more = left_more typed loop.from c.word_end-end.result (omega arith) c.word_end-end.ensures.value (take loop.count loop.widths) width (sym c.in-Is.is ∙ c.number_in.ensures) in (
       omega arith,
       omega arith,
       simp length-set (omega arith),

@@ -1,6 +1,5 @@
 -- `text::widths::put_widths` meets its contract: after i turns i digits stand at the front, and then what stood there.
 use Prim.Native.Nat.{ℕ, ◌+◌}
-use mathlib.Core.Path.{refl}
 use native.Mathlib.Omega.{arith}
 use lib.ListN.{length-set, length-map}
 use Rattle.laws.proofs.Copying.{mapped_more}
@@ -22,11 +21,3 @@ returns c =
     let loop = c.loop-i in
     let args = c.args in
     record { puts = puts_whole (run_together args.widths.now) args.out.now loop.i loop.out (rw length-map (omega arith)) loop.invariant.2; value = omega arith }
-
-pub loop-i-init : goal.loop-i-init
-loop-i-init c =
-    (omega arith, refl, refl)
-
-pub overflow_add-out : goal.overflow_add-out
-overflow_add-out c =
-    omega (arith, c.requires.below c.loop-i.i (omega arith))
