@@ -24,7 +24,7 @@ pub enum Run {
 }
 
 // The three are alike but for their set. No value changes to the set that is being read, so a reader never calls itself.
-#[cycle(read_a_read_b_read_c)]
+#[cycle(readers)]
 pub fn read_a(values: &[u8], from: usize, text: &mut [u8], at: usize) -> Answer
     requires { (from ≤ length values.now) × (length text.old ≡ 48) × (at ≤ 48) }
     ensures { FillsOwn (read_on (take at text.old) (in_set set_a) (drop from values.now)) text.old result text.new }
@@ -38,7 +38,7 @@ pub fn read_a(values: &[u8], from: usize, text: &mut [u8], at: usize) -> Answer
     }
 }
 
-#[cycle(read_a_read_b_read_c)]
+#[cycle(readers)]
 pub fn read_b(values: &[u8], from: usize, text: &mut [u8], at: usize) -> Answer
     requires { (from ≤ length values.now) × (length text.old ≡ 48) × (at ≤ 48) }
     ensures { FillsOwn (read_on (take at text.old) (in_set set_b) (drop from values.now)) text.old result text.new }
@@ -52,7 +52,7 @@ pub fn read_b(values: &[u8], from: usize, text: &mut [u8], at: usize) -> Answer
     }
 }
 
-#[cycle(read_a_read_b_read_c)]
+#[cycle(readers)]
 pub fn read_c(values: &[u8], from: usize, text: &mut [u8], at: usize) -> Answer
     requires { (from ≤ length values.now) × (length text.old ≡ 48) × (at ≤ 48) }
     ensures { FillsOwn (read_on (take at text.old) (in_set set_c) (drop from values.now)) text.old result text.new }
