@@ -5,7 +5,7 @@ use Rattle.code_sets.specs.declared.readers.Run.{Run}
 use Rattle.code_sets.specs.Sets.{Set, set_a, set_b, set_c}
 use Rattle.code_sets.specs.Reading.{in_set}
 use Rattle.code_sets.specs.Readers.{Runs}
-use Rattle.code_sets.proofs.ReaderLaws.{Ran, ends, refuses, may_call, hands_on}
+use Rattle.code_sets.proofs.ReaderLaws.{Ran, ends, may_call, hands_on}
 use Rattle.code_sets.proofs.readers.+readers.Goals as goal
 
 -- where the run has answered
@@ -74,4 +74,3 @@ read_c-returns-in-ToB t c = hands_on (ran c.run_in.ensures c.decreases) set_b _ 
 
 pub read_c-returns-in-ToC : goal.read_c-returns-in-ToC
 read_c-returns-in-ToC t c = hands_on (ran c.run_in.ensures c.decreases) set_c _ _ c.in-ToC.is c.read_c.ensures
-

@@ -1,5 +1,4 @@
 -- `code_sets::readers::change_to` meets its contract, set by set.
-use borrow.Author.Rules.{rules}
 use Rattle.code_sets.proofs.readers.change_to.Goals as goal
 
 pub returns-in-A : goal.returns-in-A

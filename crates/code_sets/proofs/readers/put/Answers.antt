@@ -2,7 +2,6 @@
 use mathlib.Core.Path.{refl}
 use mathlib.Core.List.{[], ◌∷◌}
 use native.Mathlib.Omega.{arith}
-use borrow.Author.Rules.{rules}
 use Rattle.code_sets.proofs.PutsLaws.{are_put, no_room}
 use Rattle.code_sets.proofs.readers.put.Goals as goal
 

@@ -2,7 +2,6 @@
 use mathlib.Core.Path.{◌≡◌}
 use mathlib.Core.Bool.{true, false}
 use mathlib.Core.List.{[], ◌∷◌}
-use borrow.Author.Rules.{rules}
 use Rattle.character_set_82.specs.Characters.{is_of82}
 use Rattle.code_sets.proofs.PutsLaws.{illegal}
 use Rattle.code_sets.proofs.readers.put_byte.Goals as goal

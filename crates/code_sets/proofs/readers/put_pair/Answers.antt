@@ -4,7 +4,6 @@ use mathlib.Core.List.{[], ◌∷◌}
 use native.Mathlib.Numerals.{add-one}
 use native.Mathlib.Omega.{arith}
 use lib.ListN.{length-set}
-use borrow.Author.Rules.{rules}
 use Rattle.code_sets.proofs.PutsLaws.{are_put, no_room}
 use Rattle.code_sets.proofs.readers.put_pair.Goals as goal
 

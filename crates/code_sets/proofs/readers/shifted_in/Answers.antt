@@ -3,7 +3,6 @@
 use mathlib.Core.Path.{◌≡◌, ap, ◌∙◌}
 use native.Mathlib.Omega.{arith}
 use lib.ListN.{get_or}
-use borrow.Author.Rules.{rules}
 use Rattle.code_sets.specs.Sets.{Set, byte_in, other}
 use Rattle.code_sets.specs.Reading.{shifted_from}
 use Rattle.code_sets.proofs.ReaderLaws.{shift_at_end, shifted_high, shifted_low, sticks, turns}

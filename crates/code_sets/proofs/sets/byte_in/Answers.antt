@@ -1,5 +1,4 @@
 -- `code_sets::sets::byte_in` meets its contract, set by set.
-use borrow.Author.Rules.{rules}
 use borrow.Author.Tests.{lt-ltb, le-ltb}
 use Rattle.code_sets.proofs.sets.byte_in.Goals as goal
 

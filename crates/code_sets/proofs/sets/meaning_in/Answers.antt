@@ -1,6 +1,5 @@
 -- `code_sets::sets::meaning_in` meets its contract: its branches are the lines of the definition.
 use mathlib.Core.Path.{ap}
-use borrow.Author.Rules.{rules}
 use borrow.Author.Tests.{lt-ltb, le-ltb}
 use Rattle.code_sets.specs.Sets.{byte, meaning_in}
 use Rattle.code_sets.proofs.sets.meaning_in.Goals as goal
