@@ -1,7 +1,8 @@
 -- `text::number_in` meets its contract: a numeral that was cut to one more than it may say is too large exactly where it is that number.
-use Prim.Native.Nat.{ℕ, ◌+◌}
+use Prim.Native.Nat.{ℕ, ◌+◌, ◌<◌, ◌≤◌}
 use mathlib.Core.Path.{◌≡◌, sym, ap, ◌∙◌}
 use mathlib.Core.List.{List}
+use native.Mathlib.Omega.{arith}
 use borrow.Author.Tests.{le-leb, lt-leb}
 use Rattle.text.specs.declared.Number.{Number}
 use Rattle.text.specs.Numeral.{number_in, capped_in}
@@ -19,8 +20,14 @@ returns-in_default c =
 
 pub returns-then-most-value : goal.returns-then-most-value
 returns-then-most-value c =
-    simp (lt-leb _ _ c.if-most-value.true) at (sym (says _ _ _ _ c.capped_in-number.ensures c.in-Is.is))
+    let value = c.in-Is.value in
+    let most = c.args.most in
+    let over : most < value = omega arith in
+    simp (lt-leb value most over) at (sym (says _ _ _ _ c.capped_in-number.ensures c.in-Is.is))
 
 pub returns : goal.returns
 returns c =
-    simp (le-leb _ _ c.if-most-value.false) at (sym (says _ _ _ _ c.capped_in-number.ensures c.in-Is.is))
+    let value = c.in-Is.value in
+    let most = c.args.most in
+    let within : value ≤ most = omega arith in
+    simp (le-leb value most within) at (sym (says _ _ _ _ c.capped_in-number.ensures c.in-Is.is))
