@@ -4,7 +4,6 @@ use Prim.Native.Nat.{ℕ}
 use mathlib.Core.Path.{◌≡◌, refl, sym, ap, ◌∙◌}
 use mathlib.Core.List.{List, map}
 use lib.ListN.{length}
-use borrow.Author.Rules.{rules}
 use Rattle.laws.specs.Below.{Below}
 use Rattle.refusal.specs.Outcome.{made}
 use Rattle.refusal.specs.Fills.{laying}

@@ -1,20 +1,7 @@
-use Prim.Native.Nat.{ℕ, suc, ◌-◌, ◌≤◌, ◌<◌}
-use mathlib.Core.Path.{◌≡◌, refl, sym, ap, ◌∙◌, subst}
-use mathlib.Core.List.{List, [], ◌∷◌}
-use native.Mathlib.Omega.{arith}
-use native.Mathlib.Numerals.{add-one}
-use borrow.Author.Rules.{rules}
-use lib.ListN.{length, get_or, drop}
-use lib.Seq.{drop-cons}
-use Rattle.refusal.specs.declared.Refusal.TheVariants.{Condensed}
-use Rattle.refusal.specs.Outcome.{made, refused}
-use Rattle.refusal.specs.Fills.{FillsOwn}
-use Rattle.refusal.proofs.FillsLaws.{laying_made}
-use Rattle.refusal.proofs.OwnLaws.{own_refused, own_of_fills}
-use Rattle.patterns.specs.Patterns.{same}
-use Rattle.patterns.proofs.PatternLaws.{same_true, same_false}
-use Rattle.upc_e.specs.Condensing.{expanded, shorts, first_fit, condensed}
-use Rattle.upc_e.proofs.CondensingLaws.{fit_first, fit_later, condensed_made}
+use Prim.Native.Nat.{◌-◌, ◌≤◌}
+use mathlib.Core.Path.{◌≡◌}
+use lib.ListN.{drop}
+use Rattle.upc_e.specs.Condensing.{shorts, first_fit, condensed}
 use Rattle.upc_e.proofs.condensing.condense.Given as goal
 
 abbrev pub invariant-loop-rule : goal.invariant-loop-rule

@@ -1,5 +1,4 @@
 -- `upc_e::condensing::expanded` meets its contract: the tests that led to each `return` are those of the definition.
-use borrow.Author.Rules.{rules}
 use borrow.Author.Tests.{le-leb, lt-leb, eq-eqb, ne_eqb}
 use Rattle.upc_e.specs.Condensing.{expanded}
 use Rattle.upc_e.proofs.condensing.expanded.Goals as goal

@@ -1,8 +1,5 @@
 -- `upc_e::condensing::is_own` meets its contract: the digits are condensed to nothing, or to what is compared.
-use Prim.Native.Nat.{ℕ}
 use mathlib.Core.Path.{◌≡◌, refl, sym, ap, ◌∙◌}
-use mathlib.Core.List.{List}
-use borrow.Author.Rules.{rules}
 use lib.ListN.{length}
 use Rattle.refusal.proofs.FillsLaws.{refused_of_answer}
 use Rattle.refusal.proofs.OwnLaws.{own_made}
@@ -11,9 +8,9 @@ use Rattle.upc_e.proofs.CondensingLaws.{length_of_expanded, condensed_made}
 use Rattle.upc_e.proofs.condensing.is_own.Goals.{After-condense}
 use Rattle.upc_e.proofs.condensing.is_own.Goals as goal
 
-pub condense-requires : goal.condense-requires
-condense-requires c =
-    record { digits_len = ap length c.requires.digits_value ∙ length_of_expanded c.args.short.now; short_len = search rules }
+pub condense-requires-clause-digits_len : goal.condense-requires-clause-digits_len
+condense-requires-clause-digits_len c =
+    ap length c.requires.digits_value ∙ length_of_expanded c.args.short.now
 
 same_digits : (c : After-condense) → condensed c.args.digits.now ≡ condensed (expanded c.args.short.now)
 same_digits c =

@@ -1,7 +1,6 @@
 -- `upc_e::condensing::short_by` meets its contract: the tests that led to each `return` tell the rule, and its row is what is returned.
 use mathlib.Core.Path.{◌≡◌, refl}
 use native.Mathlib.Omega.{arith}
-use borrow.Author.Rules.{rules}
 use Rattle.upc_e.specs.Condensing.{shorts}
 use Rattle.upc_e.proofs.condensing.short_by.Goals as goal
 

@@ -4,9 +4,8 @@ use Prim.Native.Nat.{ℕ, ◌%◌}
 use mathlib.Core.Path.{◌≡◌, sym, ap, ◌∙◌}
 use mathlib.Core.List.{List, [], ◌∷◌, ◌++◌, map}
 use native.Mathlib.Omega.{arith}
-use lib.ListN.{length, get_or, set, drop, length-take, length-map, length-append, drop_of_length-le}
+use lib.ListN.{length, get_or, set, drop, length-map, length-append, drop_of_length-le}
 use lib.Seq.{drop-cons, set_at}
-use borrow.Author.Rules.{rules}
 use borrow.Author.Tests.{lt-ltb}
 use Rattle.refusal.specs.declared.Answer.TheVariants.{Refused}
 use Rattle.refusal.specs.declared.Refusal.TheVariants.{Pattern}
@@ -54,11 +53,3 @@ returns c =
     let of-short : scanned widths ≡ made (ones ++ (check ∷ [])) = rw (of-values, found.0, lt-ltb check 10 found.1) in
     let is = ap (λ (front : List ℕ). set (front ++ drop 6 lent) 6 check) c.digits_of.ensures ∙ filled lent ones check c.requires six in
     own_filled _ _ _ 7 (of-short ∙ ap made (sym is)) (omega (arith, ap length is, length-append ones (check ∷ []), six)) c.requires
-
-pub slice_bounds-digits_of-end-3 : goal.slice_bounds-digits_of-end-3
-slice_bounds-digits_of-end-3 c =
-    simp length-take (omega arith)
-
-pub digits_of-requires : goal.digits_of-requires
-digits_of-requires c =
-    simp length-take (omega arith)

@@ -4,13 +4,11 @@ use Prim.Native.Nat.{ℕ}
 use mathlib.Core.Path.{◌≡◌, ap, ap₂, ◌∙◌}
 use mathlib.Core.List.{List, ◌++◌}
 use native.Mathlib.Omega.{arith}
-use lib.ListN.{length, get_or, take, drop, replicate, length-take, length-drop, length-append}
-use borrow.Author.Rules.{rules}
+use lib.ListN.{length, take, drop, replicate, length-take, length-drop, length-append}
 use Rattle.laws.specs.Below.{Below}
 use Rattle.laws.proofs.Parts.{put, last_part}
 use Rattle.refusal.proofs.FillsLaws.{laid_whole}
 use Rattle.patterns.specs.Patterns.{drawn}
-use Rattle.parity.specs.declared.rows.Rows.TheVariants.{CheckDigit}
 use Rattle.parity.specs.Letters.{in_sets}
 use Rattle.parity.proofs.RowLaws as Row
 use Rattle.parity.proofs.RowLaws.{InRow}
@@ -23,17 +21,9 @@ use Rattle.upc_e.proofs.SymbolLaws.{printed}
 use Rattle.upc_e.proofs.stages.symbol.Goals.{After-guarded_half, After-in_sets-values}
 use Rattle.upc_e.proofs.stages.symbol.Goals as goal
 
-pub overflow_cast-short : goal.overflow_cast-short
-overflow_cast-short c =
-    let short = c.args.short.now in let digits = printed short c.requires.short_len c.requires.below in omega (arith, digits.ten)
-
-pub row_of-row-requires : goal.row_of-row-requires
-row_of-row-requires c =
-    let short = c.args.short.now in let digits = printed short c.requires.short_len c.requires.below in digits.ten
-
 pub in_sets-values-requires : goal.in_sets-values-requires
 in_sets-values-requires c =
-    let short = c.args.short.now in let digits = printed short c.requires.short_len c.requires.below in 
+    let short = c.args.short.now in let digits = printed short c.requires.short_len c.requires.below in
     record { below = rw c.row_of-row.ensures (Row.letters_below digits); digits_len = digits.six; below_2 = digits.below }
 
 values_are : (c : After-in_sets-values) → c.in_sets-values.result ≡ (Row.values (printed c.args.short.now c.requires.short_len c.requires.below))
