@@ -1,6 +1,6 @@
 -- The best spelling is found by lengths alone: where two spellings begin with different values, the longer loses, and of two of one length the
 -- one with the greater first value. In set C two digits are always a pair, since what is best from B never grows shorter by a byte more.
-use Prim.Native.Nat.{ℕ, suc, ◌+◌, ◌-◌, ◌≤◌, ◌<◌}
+use Prim.Native.Nat.{ℕ, suc, ◌+◌, ◌≤◌, ◌<◌}
 use mathlib.Core.Path.{◌≡◌, refl, ap, ◌∙◌}
 use mathlib.Core.Bool.{Bool, true, false, cond, ◌&&◌}
 use mathlib.Core.List.{List, [], ◌∷◌}
