@@ -1,7 +1,7 @@
 -- The rules of the two calls. Document 01: "Reading GS1-128 tests 1, 4, 5, 6, 7, 8, then the message's 9 to 11, then 12." Writing tests the
 -- message, 1, 2, 9, 10, 11, then 12; what it draws is the best spelling.
 use Rattle.std.specs.Prelude.{ℕ, List}
-use Rattle.refusal.specs.Outcome.{Outcome, made, ◌>>=◌, ◌>>◌}
+use Rattle.refusal.specs.Outcome.{Outcome, made, ◌>>=◌}
 use Rattle.refusal.specs.Fills.{laying}
 use Rattle.elements.specs.Strings.{parsed, tested}
 use Rattle.code_sets.specs.Reading.{decoded}

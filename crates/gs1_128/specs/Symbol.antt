@@ -1,6 +1,6 @@
 -- Document 01: "GS1-128: 6n + 19 widths, where n counts the characters between start and check, first FNC1 included; n is 2 to 100." A
 -- symbol is a start, the first FNC1, the values that spell the message, the check character and the stop.
-use Rattle.std.specs.Prelude.{ℕ, ◌+◌, ◌-◌, ◌/◌, ◌%◌, Bool, ◌&&◌, List, [], ◌∷◌, ◌++◌, length, take, drop, leb, eqb}
+use Rattle.std.specs.Prelude.{ℕ, ◌-◌, ◌/◌, ◌%◌, Bool, ◌&&◌, List, [], ◌∷◌, ◌++◌, length, take, drop, leb, eqb}
 use Rattle.patterns.specs.Patterns.{drawn}
 use Rattle.code128.specs.Characters.{patterns, stop}
 use Rattle.code128.specs.Check.{check_of}

@@ -1,0 +1,90 @@
+-- `gs1_128::drawing::characters_of` meets its contract: the best spelling stands at the front of the list, a start and FNC1 first, so its check
+-- is that of the start and the rest of it, and goes to the place after it.
+use Prim.Native.Nat.{ℕ, suc, ◌+◌, ◌-◌, ◌≤◌}
+use mathlib.Core.Path.{◌≡◌, sym, ap, ◌∙◌}
+use mathlib.Core.List.{List, ◌∷◌, ◌++◌}
+use native.Mathlib.Omega.{arith}
+use lib.ListN.{length, get_or, set, take, drop}
+use Rattle.spelling.specs.Best.{best_spelling}
+use Rattle.code128.specs.Check.{check_of}
+use Rattle.code_sets.specs.Spelling.{Spelled}
+use Rattle.code128.proofs.CheckLaws.{check_below}
+use Rattle.spelling.proofs.BestLaws.{best_short}
+use Rattle.spelling.proofs.BestSpelled.{best_is_spelled}
+use Rattle.gs1_128.specs.Symbol.{checked}
+use Rattle.gs1_128.proofs.WithCheckLaws.{first_is, values_are, length_checked, check_added}
+use Rattle.gs1_128.proofs.drawing.characters_of.Goals.{After-spell-count}
+use Rattle.gs1_128.proofs.drawing.characters_of.Goals as goal
+
+spelled : (c : After-spell-count) → Spelled (best_spelling c.args.message.now) c.args.message.now
+spelled c =
+    let message = c.args.message.now in best_is_spelled message c.requires.message_value
+
+is : (c : After-spell-count) → c.spell-count.new.values ≡ ((spelled c).start ∷ 102 ∷ (spelled c).values) ++ (drop c.spell-count.result c.args.characters.now)
+is c =
+    let count = c.spell-count.result in let behind = drop count c.args.characters.now in c.spell-count.ensures.values_after ∙ ap (λ (l : List ℕ). l ++ behind) (spelled c).is
+
+counts : (c : After-spell-count) → c.spell-count.result ≡ suc (length (102 ∷ (spelled c).values))
+counts c =
+    c.spell-count.ensures.value ∙ ap length (spelled c).is
+
+few : (c : After-spell-count) → c.spell-count.result ≤ 50
+few c =
+    let message = c.args.message.now in omega (arith, c.spell-count.ensures.value, best_short message, c.requires.message_len_bound)
+
+long : (c : After-spell-count) → length c.spell-count.new.values ≡ 51
+long c =
+    c.spell-count.auto.values ∙ c.requires.characters_len
+
+start_is : (c : After-spell-count) → get_or c.spell-count.new.values 0 0 ≡ (spelled c).start
+start_is c =
+    let list = c.spell-count.new.values in let count = c.spell-count.result in let behind = drop count c.args.characters.now in first_is list (spelled c).start (102 ∷ (spelled c).values) behind (is c) count (counts c)
+
+rest-is : (c : After-spell-count) → take (c.spell-count.result - 1) (drop 1 c.spell-count.new.values) ≡ 102 ∷ (spelled c).values
+rest-is c =
+    let list = c.spell-count.new.values in let count = c.spell-count.result in let behind = drop count c.args.characters.now in values_are list (spelled c).start (102 ∷ (spelled c).values) behind (is c) count (counts c)
+
+length-is : (c : After-spell-count) → length (checked (best_spelling c.args.message.now)) ≡ c.spell-count.result + 1
+length-is c =
+    let list = c.spell-count.new.values in let count = c.spell-count.result in let behind = drop count c.args.characters.now in ap (λ (l : List ℕ). length (checked l)) (spelled c).is ∙ length_checked list (spelled c).start (102 ∷ (spelled c).values) behind (is c) count (counts c)
+
+added : (c : After-spell-count) → (check : ℕ) → check ≡ check_of (get_or c.spell-count.new.values 0 0) (take (c.spell-count.result - 1) (drop 1 c.spell-count.new.values)) → take (c.spell-count.result + 1) (set c.spell-count.new.values c.spell-count.result check) ≡ checked (best_spelling c.args.message.now)
+added c check e =
+    let list = c.spell-count.new.values in let count = c.spell-count.result in let behind = drop count c.args.characters.now in check_added list (spelled c).start (102 ∷ (spelled c).values) behind (is c) count (counts c) check e (omega (arith, (few c), (long c)))
+    ∙ ap checked (sym (spelled c).is)
+
+pub overflow_cast-characters : goal.overflow_cast-characters
+overflow_cast-characters c =
+    omega (arith, start_is (goal.at.overflow_cast-characters c).After-spell-count, (spelled (goal.at.overflow_cast-characters c).After-spell-count).most)
+
+pub slice_bounds-check_of-count : goal.slice_bounds-check_of-count
+slice_bounds-check_of-count c =
+    omega (arith, counts (goal.at.slice_bounds-check_of-count c).After-spell-count)
+
+pub slice_bounds-check_of-start : goal.slice_bounds-check_of-start
+slice_bounds-check_of-start c =
+    omega (arith, counts (goal.at.slice_bounds-check_of-start c).After-spell-count)
+
+pub slice_bounds-check_of-end : goal.slice_bounds-check_of-end
+slice_bounds-check_of-end c =
+    omega (arith, few (goal.at.slice_bounds-check_of-end c).After-spell-count, long (goal.at.slice_bounds-check_of-end c).After-spell-count)
+
+pub check_of-check-requires : goal.check_of-check-requires
+check_of-check-requires c =
+    record { start_bound = rw (start_is (goal.at.check_of-check-requires c).After-spell-count) (omega (arith, (spelled (goal.at.check_of-check-requires c).After-spell-count).most)); values_len_bound = rw (rest-is (goal.at.check_of-check-requires c).After-spell-count) (omega (arith, counts (goal.at.check_of-check-requires c).After-spell-count, few (goal.at.check_of-check-requires c).After-spell-count)) }
+
+pub overflow_cast-characters-2 : goal.overflow_cast-characters-2
+overflow_cast-characters-2 c =
+    let list = c.spell-count.new.values in let count = c.spell-count.result in omega (arith, c.check_of-check.ensures, check_below (get_or list 0 0) (take (count - 1) (drop 1 list)))
+
+pub bounds-characters-count : goal.bounds-characters-count
+bounds-characters-count c =
+    omega (arith, few (goal.at.bounds-characters-count c).After-spell-count, long (goal.at.bounds-characters-count c).After-spell-count)
+
+pub overflow_add-result : goal.overflow_add-result
+overflow_add-result c =
+    omega (arith, few (goal.at.overflow_add-result c).After-spell-count)
+
+pub returns : goal.returns
+returns c =
+    record { value = sym (length-is (goal.at.returns c).After-spell-count); characters_after = added (goal.at.returns c).After-spell-count c.check_of-check.result c.check_of-check.ensures }
