@@ -12,7 +12,6 @@ use Rattle.refusal.specs.Fills.{Fills}
 use Rattle.symbols.specs.declared.Kind.{Kind}
 use Rattle.symbols.specs.declared.Named.TheVariants as Named
 use Rattle.symbols.specs.declared.Reading.{Reading}
-use Rattle.symbols.specs.declared.Reading.TheVariants as Reading
 use Rattle.symbols.specs.Kinds.{kind_of, reads_as, named_of}
 use Rattle.symbols.specs.Readings.{reads, FillsNamed}
 use Rattle.symbols.proofs.Theorems.{read_as_named, refused_if_unnamed}
