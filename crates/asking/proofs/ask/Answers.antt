@@ -1,0 +1,40 @@
+-- `asking::ask` meets its contract: the part is cut where the string that was found says.
+use Prim.Native.Nat.{ℕ, ◌+◌, ◌≤◌}
+use mathlib.Core.Path.{◌≡◌, sym, ap, ◌∙◌}
+use mathlib.Core.List.{List}
+use native.Mathlib.Nat.{add-sub_cancel_left}
+use native.Mathlib.Omega.{arith}
+use borrow.Author.Rules.{rules}
+use lib.ListN.{length, take, drop}
+use Rattle.refusal.specs.Outcome.{made}
+use Rattle.elements.specs.declared.Element.{Element}
+use Rattle.asking.specs.Asking.{asked, part_of}
+use Rattle.elements.proofs.CountLaws.{found_string, found_refused}
+use Rattle.asking.proofs.AskLaws.{asked_stands, part_within}
+use Rattle.asking.proofs.ask.Goals.{In-String}
+use Rattle.asking.proofs.ask.Goals as goal
+
+pub returns-in_default : goal.returns-in_default
+returns-in_default c =
+    let message = c.args.message.now in let x = c.args.identifier in sym (ap (part_of message) (found_refused (asked message x) _ (sym c.in_default.is ∙ c.find.ensures)))
+
+is-asked : (c : In-String) → asked c.args.message.now c.args.identifier ≡ made c.in-String.element
+is-asked c =
+    let message = c.args.message.now in let x = c.args.identifier in let string = c.in-String.element in found_string (asked message x) string (sym c.in-String.is ∙ c.find.ensures)
+
+inside : (c : In-String) → c.in-String.element.begin + c.in-String.element.length ≤ length c.args.message.now
+inside c =
+    let message = c.args.message.now in let x = c.args.identifier in let string = c.in-String.element in part_within message string (asked_stands message x string (is-asked c))
+
+pub overflow_add-end : goal.overflow_add-end
+overflow_add-end c =
+    omega (arith, inside (goal.at.overflow_add-end c).In-String)
+
+pub slice_bounds-result-end-2 : goal.slice_bounds-result-end-2
+slice_bounds-result-end-2 c =
+    inside (goal.at.slice_bounds-result-end-2 c).In-String
+
+pub returns : goal.returns
+returns c =
+    let message = c.args.message.now in let string = c.in-String.element in let bytes = message in
+    ap (λ (n : ℕ). take n (drop string.begin bytes)) (add-sub_cancel_left string.begin string.length) ∙ sym (ap (part_of bytes) (is-asked (goal.at.returns c).In-String))
