@@ -1,13 +1,10 @@
 -- `asking::ask` meets its contract: the part is cut where the string that was found says.
 use Prim.Native.Nat.{ℕ, ◌+◌, ◌≤◌}
 use mathlib.Core.Path.{◌≡◌, sym, ap, ◌∙◌}
-use mathlib.Core.List.{List}
 use native.Mathlib.Nat.{add-sub_cancel_left}
 use native.Mathlib.Omega.{arith}
-use borrow.Author.Rules.{rules}
 use lib.ListN.{length, take, drop}
 use Rattle.refusal.specs.Outcome.{made}
-use Rattle.elements.specs.declared.Element.{Element}
 use Rattle.asking.specs.Asking.{asked, part_of}
 use Rattle.elements.proofs.CountLaws.{found_string, found_refused}
 use Rattle.asking.proofs.AskLaws.{asked_stands, part_within}

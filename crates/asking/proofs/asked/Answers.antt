@@ -1,6 +1,5 @@
 -- `asking::asked` meets its contract: what was found is the rule's.
 use mathlib.Core.Path.{sym, ap, ◌∙◌}
-use borrow.Author.Rules.{rules}
 use Rattle.refusal.specs.Outcome.{Outcome}
 use Rattle.refusal.specs.Fills.{answered}
 use Rattle.elements.specs.declared.Element.{Element}

@@ -1,10 +1,8 @@
 -- `asking::find` meets its contract: the test tells whether there are strings to look among, and the walk along them stops at the string of
 -- the identifier, or at one that has another.
-use Prim.Native.Nat.{ℕ}
 use mathlib.Core.Path.{◌≡◌, sym, ap, ◌∙◌}
 use mathlib.Core.List.{List}
 use lib.ListN.{length}
-use borrow.Author.Rules.{rules}
 use borrow.Author.Tests.{eq-eqb, ne_eqb}
 use Rattle.refusal.specs.Outcome.{Outcome, made, ◌>>=◌}
 use Rattle.refusal.proofs.FillsLaws.{refused_of_answer, made_of_answer}
