@@ -1,6 +1,6 @@
 -- `splitting::split` meets its contract: after k turns the lent list is `stored message list k` and the place is `place_after message k`;
 -- after the planned turns that is what the rule promises.
-use Rattle.std.proofs.Common.{◌≡◌, refl, ap, ℕ, ◌+◌, ◌<◌, ◌≤◌, List, length, slice_set, add-one, arith}
+use Rattle.std.proofs.Common.{◌≡◌, refl, ℕ, ◌+◌, ◌<◌, ◌≤◌, List, length, slice_set, add-one, arith}
 use Rattle.refusal.specs.Fills.{Fills}
 use Rattle.elements.specs.Strings.{string_at}
 use Rattle.splitting.specs.declared.Record.{Record}

@@ -1,5 +1,4 @@
 -- `splitting::split_twelve` meets its contract: the front of twelve blank records is lent and filled, and the others stay blank.
-use Rattle.std.proofs.Common.{arith}
 use Rattle.splitting.proofs.SplitLaws.{twelve_filled}
 use Rattle.splitting.proofs.split_twelve.Goals as goal
 

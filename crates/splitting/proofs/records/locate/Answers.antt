@@ -1,6 +1,5 @@
 -- `splitting::records::locate` meets its contract: the string found is the rule's.
 use mathlib.Core.Path.{sym, ap, ◌∙◌}
-use borrow.Author.Rules.{rules}
 use Rattle.elements.specs.Strings.{string_at}
 use Rattle.splitting.specs.Records.{located_of}
 use Rattle.splitting.specs.declared.Record.{Record}
