@@ -1,0 +1,13 @@
+-- `requests::faults::put_help` meets its contract: the text is the line that the table of words makes.
+use mathlib.Core.Path.{refl}
+use native.Mathlib.Omega.{arith}
+use Rattle.requests.specs.Words.{calls}
+use Rattle.requests.specs.Texts.{help_line}
+use Rattle.requests.proofs.faults.put_help.Goals as goal
+
+pub returns : goal.returns
+unfolding help_line calls
+returns c =
+    c.put_text.ensures
+
+-- ANSWER 2: (λ c. c.before.before.put-text.auto.1.0)
