@@ -103,12 +103,16 @@ module _ {widths message : List ℕ} (s : IsSymbol widths message) where
           ∙ six_has widths i
       go (no past) either = together (λ j l away. omega arith)
 
+-- each kind of damage
+none_is_left : {widths message : List ℕ} (s : IsSymbol widths message) {damaged : List ℕ} → Damaged s damaged → (message' : List ℕ) → IsSymbol damaged message' → ⊥
+none_is_left s (character_replaced k c h l other) message' s' = replaced_is_none s k c h l other s'
+none_is_left s (neighbours_exchanged k least h unequal) message' s' = exchanged_is_none s k least h unequal s'
+none_is_left s (edge_moved i x y h shared other) message' s' = moved_is_none s i x y h other s'
+none_is_left s (width_changed i x h other) message' s' = changed_is_none s i x h other s'
+
 -- Theorem 6: a right symbol, damaged once, is a right symbol of no message, ..
 pub damaged_is_none : {widths message damaged : List ℕ} (s : IsSymbol widths message) → Damaged s damaged → (message' : List ℕ) → IsSymbol damaged message' → ⊥
-damaged_is_none s (character_replaced k c h l other) message' s' = replaced_is_none s k c h l other s'
-damaged_is_none s (neighbours_exchanged k least h unequal) message' s' = exchanged_is_none s k least h unequal s'
-damaged_is_none s (edge_moved i x y h shared other) message' s' = moved_is_none s i x y h other s'
-damaged_is_none s (width_changed i x h other) message' s' = changed_is_none s i x h other s'
+damaged_is_none s d message' s' = none_is_left s d message' s'
 
 -- .. so no message is found in it, ..
 pub damaged_is_refused : {widths message damaged : List ℕ} (s : IsSymbol widths message) → Damaged s damaged → (f : Refusal) × (message_in damaged ≡ refused f)

@@ -1,7 +1,5 @@
 -- `requests::call_at` meets its contract: the tests are the rule's own, on the word that ends where the code says.
-use Prim.Native.Nat.{ℕ}
-use mathlib.Core.Path.{refl, sym, ◌∙◌}
-use mathlib.Core.List.{List}
+use mathlib.Core.Path.{sym, ◌∙◌}
 use native.Mathlib.Omega.{arith}
 use Rattle.requests.proofs.RequestLaws.{help_called, none_called, call_alone, call_made, places_within}
 use Rattle.requests.proofs.WordLaws.{usual_fits}

@@ -1,7 +1,5 @@
 -- `requests::identifier_in` meets its contract: the tests are the rule's own, on the first word.
-use Prim.Native.Nat.{ℕ}
 use mathlib.Core.Path.{sym, ◌∙◌}
-use mathlib.Core.List.{List}
 use native.Mathlib.Omega.{arith}
 use Rattle.requests.proofs.LeadingLaws.{none_leads, leads_alone, leads_on}
 use Rattle.requests.proofs.identifier_in.Goals as goal

@@ -1,7 +1,5 @@
 -- `requests::in_room` meets its contract: the number of places is what the rule reads, and is at most 700.
-use Prim.Native.Nat.{ℕ}
 use mathlib.Core.Path.{sym, ◌∙◌}
-use mathlib.Core.List.{List}
 use native.Mathlib.Omega.{arith}
 use Rattle.text.proofs.NumeralLaws.{number_within}
 use Rattle.requests.proofs.RequestLaws.{none_roomed, room_alone, room_made}

@@ -1,9 +1,5 @@
 -- `requests::request_of` meets its contract: the tests are the rule's own, on the first word.
-use Prim.Native.Nat.{ℕ}
-use mathlib.Core.Path.{◌≡◌, refl, sym, ap, ◌∙◌}
-use mathlib.Core.Bool.{Bool, not, not-not}
-use mathlib.Core.List.{List}
-use native.Mathlib.Omega.{arith}
+use mathlib.Core.Path.{◌∙◌}
 use borrow.Author.Tests.{eq-eqb}
 use Rattle.requests.specs.Requests.{request_of}
 use Rattle.requests.proofs.RequestLaws.{call_asked, places_missing, room_asked}
@@ -11,10 +7,6 @@ use Rattle.requests.proofs.request_of.Goals.{After-equal}
 use Rattle.requests.proofs.request_of.Goals as goal
 
 -- the code turns the test round
-turned : (c : After-equal) → {r : Bool} → not c.equal.result ≡ r → c.equal.result ≡ not r
-turned c e =
-    sym (not-not c.equal.result) ∙ ap not e
-
 pub returns-then-line-eq0 : goal.returns-then-line-eq0
 unfolding request_of
 returns-then-line-eq0 c =
@@ -22,14 +14,14 @@ returns-then-line-eq0 c =
 
 pub returns-then-not-equal : goal.returns-then-not-equal
 returns-then-not-equal c =
-    let line = c.args.line.now in record { value = c.call_at.ensures.value ∙ call_asked line _ c.word_end-end.ensures.value c.if-line-eq0.false c.equal.ensures (turned (goal.at.returns-then-not-equal c).After-equal c.if-not-equal.true-raw); within = c.call_at.ensures.within }
+    let line = c.args.line.now in record { value = c.call_at.ensures.value ∙ call_asked line _ c.word_end-end.ensures.value c.if-line-eq0.false c.equal.ensures c.if-not-equal.true; within = c.call_at.ensures.within }
 
 pub returns-then-end-line : goal.returns-then-end-line
 returns-then-end-line c =
-    let line = c.args.line.now in record { value = places_missing line _ c.word_end-end.ensures.value c.if-line-eq0.false c.equal.ensures (turned (goal.at.returns-then-end-line c).After-equal c.if-not-equal.false-raw) c.if-end-line.true; within = tt }
+    let line = c.args.line.now in record { value = places_missing line _ c.word_end-end.ensures.value c.if-line-eq0.false c.equal.ensures c.if-not-equal.false c.if-end-line.true; within = tt }
 
 pub returns : goal.returns
 returns c =
-    let line = c.args.line.now in record { value = c.in_room.ensures.value ∙ room_asked line _ c.word_end-end.ensures.value c.if-line-eq0.false c.equal.ensures (turned (goal.at.returns c).After-equal c.if-not-equal.false-raw) c.if-end-line.false; within = c.in_room.ensures.within }
+    let line = c.args.line.now in record { value = c.in_room.ensures.value ∙ room_asked line _ c.word_end-end.ensures.value c.if-line-eq0.false c.equal.ensures c.if-not-equal.false c.if-end-line.false; within = c.in_room.ensures.within }
 
 -- ANSWER 7: (λ c κs. (omega arith, omega arith))

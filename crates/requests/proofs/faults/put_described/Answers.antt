@@ -1,6 +1,4 @@
 -- `requests::faults::put_described` meets its contract: each text is what the rule says of its argument.
-use mathlib.Core.Path.{refl}
-use native.Mathlib.Omega.{arith}
 use Rattle.requests.specs.Texts.{described}
 use Rattle.requests.proofs.faults.put_described.Goals as goal
 

@@ -1,8 +1,6 @@
 -- `requests::faults::put_fault` meets its contract: the front of the line is written, and the rest after it.
-use mathlib.Core.Path.{refl}
 use native.Mathlib.Omega.{arith}
 use lib.ListN.{length-take, length-drop}
-use borrow.Author.Rules.{rules}
 use Rattle.text.proofs.PutsLaws.{puts_then, puts_within}
 use Rattle.requests.specs.Texts.{fault_line}
 use Rattle.requests.proofs.faults.put_fault.Goals as goal

@@ -1,6 +1,4 @@
 -- `requests::faults::put_help` meets its contract: the text is the line that the table of words makes.
-use mathlib.Core.Path.{refl}
-use native.Mathlib.Omega.{arith}
 use Rattle.requests.specs.Words.{calls}
 use Rattle.requests.specs.Texts.{help_line}
 use Rattle.requests.proofs.faults.put_help.Goals as goal

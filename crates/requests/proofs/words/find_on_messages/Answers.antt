@@ -1,7 +1,4 @@
 -- `requests::words::find_on_messages` meets its contract: each test is that of a row, and a row whose test fails is passed.
-use Prim.Native.Nat.{ℕ}
-use mathlib.Core.Path.{refl}
-use mathlib.Core.List.{List}
 use Rattle.requests.specs.Words.{on_messages}
 use Rattle.requests.proofs.WordLaws.{none, found, passed, Left}
 use Rattle.requests.proofs.words.find_on_messages.Goals.{Else-equal, Else-equal-2, Else-equal-3, Else-equal-4}

@@ -1,7 +1,5 @@
 -- `requests::words::find_reading` meets its contract: each test is that of a row, and a row whose test fails is passed.
-use Prim.Native.Nat.{ℕ}
-use mathlib.Core.Path.{refl}
-use mathlib.Core.List.{List, ◌++◌}
+use mathlib.Core.List.{◌++◌}
 use Rattle.requests.specs.Words.{reading, on_messages}
 use Rattle.requests.proofs.WordLaws.{found, passed, Left}
 use Rattle.requests.proofs.words.find_reading.Goals.{Else-equal, Else-equal-2, Else-equal-3, Else-equal-4, Else-equal-5, Else-equal-6}
