@@ -6,7 +6,6 @@ use mathlib.Core.List.{List}
 use native.Mathlib.Nat.{sub-zero}
 use native.Mathlib.Omega.{arith}
 use lib.ListN.{length, take}
-use borrow.Author.Rules.{rules}
 use Rattle.text.specs.Typed.{message_of}
 use Rattle.text.proofs.PutsLaws.{puts_front}
 use Rattle.gs1_128.specs.Rules.{writes}

@@ -1,12 +1,8 @@
 -- `bench::line::put_symbol` meets its contract: what the writer left is what its rule makes, widths of one digit each.
 use Prim.Native.Nat.{ℕ}
 use mathlib.Core.Path.{◌≡◌, sym, ap, ◌∙◌}
-use mathlib.Core.List.{List}
 use native.Mathlib.Omega.{arith}
 use lib.ListN.{length}
-use borrow.Author.Rules.{rules}
-use Rattle.refusal.specs.declared.Answer.{Answer}
-use Rattle.refusal.specs.Outcome.{Outcome}
 use Rattle.text.proofs.PutsLaws.{puts_same}
 use Rattle.answers.specs.declared.Form.TheVariants.{Widths as AsWidths}
 use Rattle.answers.specs.Lines.{list_line}
