@@ -28,14 +28,6 @@ old-long : (c : Else-buffer-count) → length (take c.args.count c.args.buffer.n
 old-long c =
     let count = c.args.count in let buffer = c.args.buffer.now in length-take-le count buffer (omega arith)
 
-pub slice_bounds-judge-end-2 : goal.slice_bounds-judge-end-2
-slice_bounds-judge-end-2 c =
-    sym (old-long c)
-
-pub judge-judged-requires : goal.judge-judged-requires
-judge-judged-requires c =
-    omega (arith, old-long c)
-
 pub returns-in_default : goal.returns-in_default
 returns-in_default c =
     let buffer = c.args.buffer.now in let count = c.args.count in let x = c.args.identifier in let content = c.args.content.now in let is = c.in_default.is in
