@@ -23,7 +23,7 @@ use Rattle.parity.proofs.RowLaws as Row
 use Rattle.parity.proofs.RowLaws.{InRow}
 use Rattle.ean_upc.specs.declared.tables.Sets.TheVariants.{AOrB}
 use Rattle.ean_upc.specs.Halves.{halves_drawn, halves_in}
-use Rattle.ean_upc.proofs.HalvesLaws.{Halves, length_of_drawn, halves_of_drawn, drawn_of_halves, widths_below as halves-below}
+use Rattle.ean_upc.proofs.HalvesLaws.{Halves, length_of_drawn, halves_of_drawn, drawn_of_halves, widths_below as halves_below}
 use Rattle.ean13.specs.Ean13.{symbol, first_of, scanned}
 
 pub left_half : (digits : List ℕ) → length digits ≡ 13 → Below 10 digits → InRow FirstDigit (get_or digits 0 0) (take 6 (drop 1 digits))
@@ -94,4 +94,4 @@ symbol_of_scan widths digits e =
 
 pub widths_below : (digits : List ℕ) → length digits ≡ 13 → Below 10 digits → Below 10 (symbol digits)
 unfolding symbol
-widths_below digits long below = halves-below AOrB _ _
+widths_below digits long below = halves_below AOrB _ _

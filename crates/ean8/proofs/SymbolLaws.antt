@@ -8,7 +8,7 @@ use Rattle.laws.specs.Below.{Below}
 use Rattle.laws.proofs.BelowLaws.{below_take, below_drop, below_append}
 use Rattle.refusal.specs.Outcome.{made}
 use Rattle.ean_upc.specs.declared.tables.Sets.TheVariants.{A}
-use Rattle.ean_upc.proofs.HalvesLaws.{length_of_drawn, halves_of_drawn, drawn_of_halves, widths_below as halves-below}
+use Rattle.ean_upc.proofs.HalvesLaws.{length_of_drawn, halves_of_drawn, drawn_of_halves, widths_below as halves_below}
 use Rattle.ean8.specs.Ean8.{symbol, scanned}
 
 module _ (digits : List ℕ) (long : length digits ≡ 8) (below : Below 10 digits) where
@@ -36,4 +36,4 @@ symbol_of_scan widths digits e =
 
 pub widths_below : (digits : List ℕ) → length digits ≡ 8 → Below 10 digits → Below 10 (symbol digits)
 unfolding symbol
-widths_below digits long below = halves-below A _ _
+widths_below digits long below = halves_below A _ _

@@ -1,10 +1,10 @@
 -- Element strings and messages.
 --
---   dataOf, next_after, element_of, string_at    Strings    one element string, where one must begin: refusals 9 and 10
---   strings_from, parsed, tested               Strings    a whole message: refusals 1, 2, 9, 10 and 11
---   ElementString, Right, joined, IsMessage   Messages   what a message is, as a relation
---   used_in, string_of                          Messages   the identifiers of some strings; a string as it stands in a message
---   found_of, sought                           Found      what the calls that look for one string answer
+--   data_of, next_after, element_of, string_at   Strings    one element string, where one must begin: refusals 9 and 10
+--   strings_from, parsed, tested                 Strings    a whole message: refusals 1, 2, 9, 10 and 11
+--   ElementString, Right, joined, IsMessage      Messages   what a message is, as a relation
+--   used_in, string_of                           Messages   the identifiers of some strings; a string as it stands in a message
+--   found_of, sought                             Found      what the calls that look for one string answer
 pub mod Strings
 pub mod Messages
 pub mod Found

@@ -9,7 +9,7 @@ use Rattle.laws.specs.Below.{Below}
 use Rattle.refusal.specs.Outcome.{made}
 use Rattle.digits.proofs.NumberedLaws as Numbered
 use Rattle.itf14.specs.Itf14.{symbol, scanned, writes, reads}
-use Rattle.itf14.proofs.SymbolLaws.{scan_of_symbol, symbol_of_scan, widths_below as below-of-symbol}
+use Rattle.itf14.proofs.SymbolLaws.{scan_of_symbol, symbol_of_scan, widths_below as below_of_symbol}
 pub use Rattle.itf14.proofs.SymbolLaws.{length_of_symbol, sum_of_symbol}
 
 pub read_of_write : (number widths : List ℕ) (room room' : ℕ) → writes number room ≡ made widths → 14 ≤ room' → reads widths room' ≡ made number
@@ -46,4 +46,4 @@ sum_of_written = Numbered.of_written 14 symbol (λ (widths : List ℕ). sum widt
 -- every width has one digit
 pub widths_below : (number widths : List ℕ) (room : ℕ) → writes number room ≡ made widths → Below 10 widths
 unfolding writes
-widths_below = Numbered.of_written 14 symbol (Below 10) below-of-symbol
+widths_below = Numbered.of_written 14 symbol (Below 10) below_of_symbol

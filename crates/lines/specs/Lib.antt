@@ -1,5 +1,5 @@
 -- Bytes cut at a byte.
 --
 --   other_than   Cut   a byte that doesn't end a part
---   cutAt       Cut   the parts
+--   cut_at       Cut   the parts
 pub mod Cut

@@ -1,11 +1,11 @@
 -- The desk's lines as requests.
 --
---   Row, calls, namedIn           Words      the words with their arguments: the one table that `help` and every line go by
---   placesOf                      Requests   how many places a call is lent
---   request_of, in_room, callAt     Requests   what a line asks for
+--   Row, calls, named_in           Words      the words with their arguments: the one table that `help` and every line go by
+--   places_of                      Requests   how many places a call is lent
+--   request_of, in_room, call_at   Requests   what a line asks for
 --   leading_of, capped             Requests   an identifier that is typed before other arguments
---   Within, LeadsWithin           Requests   places that lie within what was typed
---   help_line, fault_line           Texts      what the desk says of its words, and of what is no request
+--   Within, LeadsWithin            Requests   places that lie within what was typed
+--   help_line, fault_line          Texts      what the desk says of its words, and of what is no request
 pub mod Words
 pub mod Requests
 pub mod Texts

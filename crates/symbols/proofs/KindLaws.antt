@@ -20,7 +20,7 @@ use Rattle.patterns.specs.Patterns.{same, value_in}
 use Rattle.patterns.proofs.PatternLaws.{same_true, pattern_at}
 use Rattle.code128.specs.Characters.{patterns, stop}
 use Rattle.ean_upc.specs.Tables.{guard, centre}
-use Rattle.ean_upc.specs.Halves.{guarded as guardedHalves, halves_in}
+use Rattle.ean_upc.specs.Halves.{guarded as guarded_halves, halves_in}
 use Rattle.ean8.specs.Ean8.{scanned as scanned8, reads as reads8}
 use Rattle.ean13.proofs.Theorems as Ean13s
 use Rattle.ean8.proofs.Theorems as Ean8s
@@ -62,11 +62,11 @@ start_bar v h = eqb→eq _ 2 (at_entry (λ (k : ℕ) (pattern : List ℕ). eqb (
 module _ (widths : List ℕ) where
   -- an EAN-8 begins with a bar of one module, and ends with a guard
   pub ends8 : (room : ℕ) (bytes : List ℕ) → reads8 widths room ≡ made bytes → (get_or widths 0 0 ≡ 1) × (drop 40 widths ≡ guard)
-  unfolding reads8 number_read scanned8 halves_in guardedHalves
+  unfolding reads8 number_read scanned8 halves_in guarded_halves
   ends8 room bytes e =
       let read = bind_made (scanned8 widths) _ bytes e in
       let counted = must_made (eqb (length widths) 43) Count _ read.0 read.1 in
-      let guards = must_made (guardedHalves 4 widths) Guard _ read.0 counted.1 in
+      let guards = must_made (guarded_halves 4 widths) Guard _ read.0 counted.1 in
       let two = both_hold (same (take 3 widths) guard && same (take 5 (drop 19 widths)) centre) (same (drop 40 widths) guard) guards.0 in
       let front = both_hold (same (take 3 widths) guard) (same (take 5 (drop 19 widths)) centre) two.0 in (
         sym (get_or-take 3 widths 0 0 (omega arith)) ∙ ap (λ (three : List ℕ). get_or three 0 0) (same_true (take 3 widths) guard front.0),

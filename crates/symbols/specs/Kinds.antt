@@ -5,7 +5,7 @@ use Rattle.refusal.specs.declared.Refusal.TheVariants.{Count}
 use Rattle.refusal.specs.Outcome.{Outcome, made, refused, ◌>>◌, must}
 use Rattle.ean13.specs.Ean13.{reads as reads13, writes as writes13}
 use Rattle.ean8.specs.Ean8.{reads as reads8, writes as writes8}
-use Rattle.upc_e.specs.UpcE.{reads as readsE, writes as writesE}
+use Rattle.upc_e.specs.UpcE.{reads as reads_e, writes as writes_e}
 use Rattle.itf14.specs.Itf14.{reads as reads14, writes as writes14}
 use Rattle.gs1_128.specs.Symbol.{permitted}
 use Rattle.gs1_128.specs.Rules as Gs1
@@ -38,7 +38,7 @@ kind_of widths = kind_by (length widths) (get_or widths 0 0)
 unfoldable pub reads_as : Kind → List ℕ → ℕ → Outcome (List ℕ)
 reads_as Ean13 = reads13
 reads_as Ean8 = reads8
-reads_as UpcE = readsE
+reads_as UpcE = reads_e
 reads_as Itf14 = reads14
 reads_as Gs1128 = Gs1.reads
 
@@ -46,7 +46,7 @@ reads_as Gs1128 = Gs1.reads
 unfoldable pub writes_as : Kind → List ℕ → ℕ → Outcome (List ℕ)
 writes_as Ean13 = writes13
 writes_as Ean8 = writes8
-writes_as UpcE = writesE
+writes_as UpcE = writes_e
 writes_as Itf14 = writes14
 writes_as Gs1128 = Gs1.writes
 

@@ -1,2 +1,2 @@
-// No code: steps that the hand-written walks of functions share.
+// No code: steps that proofs by hand, of functions over lists of structs, share.
 #![tactic(auto)]

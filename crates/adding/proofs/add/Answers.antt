@@ -18,34 +18,61 @@ use Rattle.adding.proofs.add.Goals as goal
 
 pub returns-then-count-gt48 : goal.returns-then-count-gt48
 returns-then-count-gt48 c =
-    let buffer = c.args.buffer.now in let count = c.args.count in let x = c.args.identifier in let content = c.args.content.now in fills_refused _ Count _ (adds_over buffer count x content c.if-count-gt48.true)
+    let buffer = c.args.buffer.now in
+    let count = c.args.count in
+    let x = c.args.identifier in
+    let content = c.args.content.now in
+    fills_refused _ Count _ (adds_over buffer count x content c.if-count-gt48.true)
 
 pub returns-then-buffer-count : goal.returns-then-buffer-count
 returns-then-buffer-count c =
-    let buffer = c.args.buffer.now in let count = c.args.count in let x = c.args.identifier in let content = c.args.content.now in fills_refused _ Count _ (adds_beyond buffer count x content c.if-count-gt48.false c.if-buffer-count.true)
+    let buffer = c.args.buffer.now in
+    let count = c.args.count in
+    let x = c.args.identifier in
+    let content = c.args.content.now in
+    fills_refused _ Count _ (adds_beyond buffer count x content c.if-count-gt48.false c.if-buffer-count.true)
 
 old-long : (c : Else-buffer-count) → length (take c.args.count c.args.buffer.now) ≡ c.args.count
 old-long c =
-    let count = c.args.count in let buffer = c.args.buffer.now in length-take-le count buffer (omega arith)
+    let count = c.args.count in
+    let buffer = c.args.buffer.now in
+    length-take-le count buffer (omega arith)
 
 pub returns-in_default : goal.returns-in_default
 returns-in_default c =
-    let buffer = c.args.buffer.now in let count = c.args.count in let x = c.args.identifier in let content = c.args.content.now in let is = c.in_default.is in
+    let buffer = c.args.buffer.now in
+    let count = c.args.count in
+    let x = c.args.identifier in
+    let content = c.args.content.now in
+    let is = c.in_default.is in
     let stopped = refused_of_answer _ _ (sym is ∙ c.judge-judged.ensures) in
     fills_passed _ _ _ c.judge-judged.result is
     (adds_refused buffer count x content (omega arith) (omega arith) _ stopped)
 
 is-judged : (c : In-Done) → (between : List ℕ) × (judged (take c.args.count c.args.buffer.now) c.args.identifier c.args.content.now ≡ made between) × (length between ≡ c.in-Done.closing)
 is-judged c =
-    let n = c.in-Done.closing in made_of_answer _ n (sym c.in-Done.is ∙ c.judge-judged.ensures)
+    let n = c.in-Done.closing in
+    made_of_answer _ n (sym c.in-Done.is ∙ c.judge-judged.ensures)
 
 fits : (c : In-Done) → Fits (take c.args.count c.args.buffer.now) c.args.identifier c.args.content.now ((is-judged c).0)
 fits c =
-    let count = c.args.count in let buffer = c.args.buffer.now in let old = take count buffer in let x = c.args.identifier in let content = c.args.content.now in let between = (is-judged c).0 in judged_fits old x content between (is-judged c).1
+    let count = c.args.count in
+    let buffer = c.args.buffer.now in
+    let old = take count buffer in
+    let x = c.args.identifier in
+    let content = c.args.content.now in
+    let between = (is-judged c).0 in
+    judged_fits old x content between (is-judged c).1
 
 rule : (c : In-Done) → adds c.args.buffer.now c.args.count c.args.identifier c.args.content.now ≡ laying ((take c.args.count c.args.buffer.now) ++ take c.in-Done.closing (separator ∷ []) ++ spelled c.args.identifier ++ c.args.content.now) (length c.args.buffer.now)
 rule c =
-    let between = (is-judged c).0 in let n = c.in-Done.closing in let buffer = c.args.buffer.now in let count = c.args.count in let x = c.args.identifier in let content = c.args.content.now in let is : between ≡ take n (separator ∷ []) = (fits c).is_take ∙ ap (λ (k : ℕ). take k (separator ∷ [])) (is-judged c).2 in
+    let between = (is-judged c).0 in
+    let n = c.in-Done.closing in
+    let buffer = c.args.buffer.now in
+    let count = c.args.count in
+    let x = c.args.identifier in
+    let content = c.args.content.now in
+    let is : between ≡ take n (separator ∷ []) = (fits c).is_take ∙ ap (λ (k : ℕ). take k (separator ∷ [])) (is-judged c).2 in
     rw (← is) (adds_laying buffer count x content (omega arith) (omega arith) between (is-judged c).1)
 
 pub compose-requires : goal.compose-requires
@@ -56,4 +83,5 @@ compose-requires c =
 
 pub returns : goal.returns
 returns c =
-    let buffer = c.args.buffer.now in fills_same _ _ buffer _ _ (rule (goal.at.returns c).In-Done) c.compose.ensures
+    let buffer = c.args.buffer.now in
+    fills_same _ _ buffer _ _ (rule (goal.at.returns c).In-Done) c.compose.ensures

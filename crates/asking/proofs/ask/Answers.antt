@@ -13,15 +13,23 @@ use Rattle.asking.proofs.ask.Goals as goal
 
 pub returns-in_default : goal.returns-in_default
 returns-in_default c =
-    let message = c.args.message.now in let x = c.args.identifier in sym (ap (part_of message) (found_refused (asked message x) _ (sym c.in_default.is ∙ c.find.ensures)))
+    let message = c.args.message.now in
+    let x = c.args.identifier in
+    sym (ap (part_of message) (found_refused (asked message x) _ (sym c.in_default.is ∙ c.find.ensures)))
 
 is-asked : (c : In-String) → asked c.args.message.now c.args.identifier ≡ made c.in-String.element
 is-asked c =
-    let message = c.args.message.now in let x = c.args.identifier in let string = c.in-String.element in found_string (asked message x) string (sym c.in-String.is ∙ c.find.ensures)
+    let message = c.args.message.now in
+    let x = c.args.identifier in
+    let string = c.in-String.element in
+    found_string (asked message x) string (sym c.in-String.is ∙ c.find.ensures)
 
 inside : (c : In-String) → c.in-String.element.begin + c.in-String.element.length ≤ length c.args.message.now
 inside c =
-    let message = c.args.message.now in let x = c.args.identifier in let string = c.in-String.element in part_within message string (asked_stands message x string (is-asked c))
+    let message = c.args.message.now in
+    let x = c.args.identifier in
+    let string = c.in-String.element in
+    part_within message string (asked_stands message x string (is-asked c))
 
 pub overflow_add-end : goal.overflow_add-end
 overflow_add-end c =
@@ -33,5 +41,7 @@ slice_bounds-result-end-2 c =
 
 pub returns : goal.returns
 returns c =
-    let message = c.args.message.now in let string = c.in-String.element in let bytes = message in
+    let message = c.args.message.now in
+    let string = c.in-String.element in
+    let bytes = message in
     ap (λ (n : ℕ). take n (drop string.begin bytes)) (add-sub_cancel_left string.begin string.length) ∙ sym (ap (part_of bytes) (is-asked (goal.at.returns c).In-String))

@@ -9,10 +9,12 @@ use Rattle.asking.proofs.asked.Goals as goal
 
 pub returns-in-String : goal.returns-in-String
 returns-in-String c =
-    let answer = asked c.args.message.now c.args.identifier in let is = found_string answer _ (sym c.in-String.is ∙ c.find-found.ensures) in
+    let answer = asked c.args.message.now c.args.identifier in
+    let is = found_string answer _ (sym c.in-String.is ∙ c.find-found.ensures) in
     sym (ap (λ (o : Outcome Element). answered (length_of o)) is)
 
 pub returns-in-Refused : goal.returns-in-Refused
 returns-in-Refused c =
-    let answer = asked c.args.message.now c.args.identifier in let is = found_refused answer _ (sym c.in-Refused.is ∙ c.find-found.ensures) in
+    let answer = asked c.args.message.now c.args.identifier in
+    let is = found_refused answer _ (sym c.in-Refused.is ∙ c.find-found.ensures) in
     sym (ap (λ (o : Outcome Element). answered (length_of o)) is)

@@ -18,24 +18,31 @@ use Rattle.asking.proofs.find.Goals as goal
 
 pub returns-in-Refused : goal.returns-in-Refused
 returns-in-Refused c =
-    let message = c.args.message.now in let x = c.args.identifier in let wrong = refused_of_answer (tested message) _ (sym c.in-Refused.is ∙ c.test-tested.ensures) in
+    let message = c.args.message.now in
+    let x = c.args.identifier in
+    let wrong = refused_of_answer (tested message) _ (sym c.in-Refused.is ∙ c.test-tested.ensures) in
     sym (ap found_of (asked_refused message x _ wrong))
 
 right : (c : After-sought-found) → (strings : List Element) × (tested c.args.message.now ≡ made strings) × (length strings ≡ c.in_default.field-0)
 right c =
-    let message = c.args.message.now in made_of_answer (tested message) _ (sym c.in_default.is ∙ c.test-tested.ensures)
+    let message = c.args.message.now in
+    made_of_answer (tested message) _ (sym c.in_default.is ∙ c.test-tested.ensures)
 
 found-is : (c : After-sought-found) → c.sought-found.result ≡ found_of (sought c.args.identifier (right c).0)
 found-is c =
-    let message = c.args.message.now in c.sought-found.ensures (right c).0 (tested_made message (right c).0 (right c).1).strings
+    let message = c.args.message.now in
+    c.sought-found.ensures (right c).0 (tested_made message (right c).0 (right c).1).strings
 
 comes-to : (c : After-sought-found) → (o : Outcome Element) → sought c.args.identifier (right c).0 ≡ o → found_of (asked c.args.message.now c.args.identifier) ≡ found_of (o >>= checked c.args.identifier)
 comes-to c o is =
-    let message = c.args.message.now in let x = c.args.identifier in ap found_of (asked_named message x (right c).0 (right c).1 ∙ named_sought x (right c).0 ∙ ap (λ (p : Outcome Element). p >>= checked x) is)
+    let message = c.args.message.now in
+    let x = c.args.identifier in
+    ap found_of (asked_named message x (right c).0 (right c).1 ∙ named_sought x (right c).0 ∙ ap (λ (p : Outcome Element). p >>= checked x) is)
 
 pub returns-in_default-found : goal.returns-in_default-found
 returns-in_default-found c =
-    let x = c.args.identifier in let is = c.in_default-found.is in
+    let x = c.args.identifier in
+    let is = c.in_default-found.is in
     is ∙ sym (comes-to (goal.at.returns-in_default-found c).After-sought-found _ (found_refused (sought x (right (goal.at.returns-in_default-found c).After-sought-found).0) _ (sym is ∙ found-is (goal.at.returns-in_default-found c).After-sought-found)))
 
 is-sought : (c : After-sought-found) (element : Element) → c.sought-found.result ≡ found_of (made element) → sought c.args.identifier (right c).0 ≡ made element

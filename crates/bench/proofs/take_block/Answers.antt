@@ -13,7 +13,8 @@ returns-then-not-passed g c =
 pub returns : goal.returns
 returns g c =
     let passed = c.answer_block-passed in
-    let next = c.next in record {
+    let next = c.next in
+    record {
       held = λ _.
           record {
             next = passed.result.start;

@@ -23,13 +23,17 @@ short c =
 
 whole : (c : After-message_in-end) → (take c.message_in-end.result c.message_in-end.new.message) ≡ message_of c.args.line.now
 whole c =
-    let line = c.args.line.now in puts_front _ _ _ _ c.message_in-end.ensures.puts ∙ take_all 4096 (message_of line) (rw length-map (omega arith))
+    let line = c.args.line.now in
+    puts_front _ _ _ _ c.message_in-end.ensures.puts ∙ take_all 4096 (message_of line) (rw length-map (omega arith))
 
 long : (c : After-message_in-end) → length (take c.message_in-end.result c.message_in-end.new.message) ≡ length c.args.line.now
 long c =
-    let line = c.args.line.now in ap length (whole c) ∙ length-map line _
+    let line = c.args.line.now in
+    ap length (whole c) ∙ length-map line _
 
 pub returns : goal.returns
 unfolding answer_to
 returns c =
-    let line = c.args.line.now in let typed = c.answer_typed in record { puts = rw (le-leb (length line) 4096 (short (goal.at.returns c).After-message_in-end)) (puts_same _ _ _ _ _ (ap answer_by (sym (whole (goal.at.returns c).After-message_in-end))) typed.ensures); upper_bound = puts_within _ _ _ _ typed.ensures typed.auto.out }
+    let line = c.args.line.now in
+    let typed = c.answer_typed in
+    record { puts = rw (le-leb (length line) 4096 (short (goal.at.returns c).After-message_in-end)) (puts_same _ _ _ _ _ (ap answer_by (sym (whole (goal.at.returns c).After-message_in-end))) typed.ensures); upper_bound = puts_within _ _ _ _ typed.ensures typed.auto.out }

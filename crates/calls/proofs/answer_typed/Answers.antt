@@ -15,15 +15,19 @@ use Rattle.calls.proofs.answer_typed.Goals as goal
 
 within : (c : In-Call) → (c.in-Call.places ≤ 700) × (c.in-Call.from ≤ length c.args.line.now)
 within c =
-    let line = c.args.line.now in subst (λ (request : Request). Within request (length line)) c.in-Call.is c.request_of.ensures.within
+    let line = c.args.line.now in
+    subst (λ (request : Request). Within request (length line)) c.in-Call.is c.request_of.ensures.within
 
 lends : (c : In-Call) → length (take c.in-Call.places c.args.list.now) ≡ c.in-Call.places
 lends c =
-    let places = c.in-Call.places in length-take-le places c.args.list.now (omega (arith, (within c)))
+    let places = c.in-Call.places in
+    length-take-le places c.args.list.now (omega (arith, (within c)))
 
 rest : (c : In-Call) → take (length c.args.line.now - c.in-Call.from) (drop c.in-Call.from c.args.line.now) ≡ drop c.in-Call.from c.args.line.now
 rest c =
-    let line = c.args.line.now in let from = c.in-Call.from in take_all (length line - from) (drop from line) (rw length-drop (omega arith))
+    let line = c.args.line.now in
+    let from = c.in-Call.from in
+    take_all (length line - from) (drop from line) (rw length-drop (omega arith))
 
 pub call-requires : goal.call-requires
 call-requires c =

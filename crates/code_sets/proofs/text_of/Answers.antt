@@ -19,26 +19,40 @@ use Rattle.code_sets.proofs.text_of.Goals as goal
 
 pub returns-in_default : goal.returns-in_default
 returns-in_default c =
-    let start = c.args.start in let values = c.args.values.now in let f = c.in_default.field-0 in
+    let start = c.args.start in
+    let values = c.args.values.now in
+    let f = c.in_default.field-0 in
     let is : c.read_from-read.result ≡ Refused f = c.in_default.is in
     own_passed _ _ _ f _ is (decoded_refused start values f (refused_of_answer _ f (sym is ∙ c.read_from-read.ensures.answer)))
 
 was_read : (c : In-Done) → (read_on [] (in_set (start_set c.args.start)) c.args.values.now ≡ made (take c.in-Done.count c.read_from-read.new.own)) × (c.in-Done.count ≤ length c.read_from-read.new.own)
 was_read c =
-    let own = c.read_from-read.new.own in let count = c.in-Done.count in own_front _ _ own c.read_from-read.result count c.in-Done.is c.read_from-read.ensures
+    let own = c.read_from-read.new.own in
+    let count = c.in-Done.count in
+    own_front _ _ own c.read_from-read.result count c.in-Done.is c.read_from-read.ensures
 
 long : (c : In-Done) → length (take c.in-Done.count c.read_from-read.new.own) ≡ c.in-Done.count
 long c =
-    let own = c.read_from-read.new.own in let count = c.in-Done.count in length-take-le count own (was_read c).1
+    let own = c.read_from-read.new.own in
+    let count = c.in-Done.count in
+    length-take-le count own (was_read c).1
 
 pub returns-then-count-eq0 : goal.returns-then-count-eq0
 returns-then-count-eq0 c =
-    let start = c.args.start in let values = c.args.values.now in let count = c.in-Done.count in let own = c.read_from-read.new.own in own_refused _ _ _ Sequence
+    let start = c.args.start in
+    let values = c.args.values.now in
+    let count = c.in-Done.count in
+    let own = c.read_from-read.new.own in
+    own_refused _ _ _ Sequence
     (decoded_empty start values (take count own) (was_read (goal.at.returns-then-count-eq0 c).In-Done).0 (long (goal.at.returns-then-count-eq0 c).In-Done ∙ c.if-count-eq0.true))
 
 pub returns : goal.returns
 returns c =
-    let count = c.in-Done.count in let own = c.read_from-read.new.own in let start = c.args.start in let values = c.args.values.now in let text = take count own in
+    let count = c.in-Done.count in
+    let own = c.read_from-read.new.own in
+    let start = c.args.start in
+    let values = c.args.values.now in
+    let text = take count own in
     let is = decoded_made start values text (was_read (goal.at.returns c).In-Done).0 (omega (arith, long (goal.at.returns c).In-Done, c.if-count-eq0.false)) in
     let fills = c.read_from-read.ensures in
     own_same _ _ _ _ _ (is ∙ sym (was_read (goal.at.returns c).In-Done).0) (record { answer = sym c.in-Done.is ∙ fills.answer; lent = fills.lent })

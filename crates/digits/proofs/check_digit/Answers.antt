@@ -26,17 +26,20 @@ returns-then-digits-gt17 c =
 pub returns-then-place-digits : goal.returns-then-place-digits
 unfolding check_digit
 returns-then-place-digits c =
-    let bytes = c.args.digits.now in let place : c.first_other-place.result ≡ first_not is_digit bytes = c.first_other-place.ensures in
+    let bytes = c.args.digits.now in
+    let place : c.first_other-place.result ≡ first_not is_digit bytes = c.first_other-place.ensures in
     simp (le-leb 1 (length bytes) (omega arith), le-leb (length bytes) 17 (omega arith), digits_refused bytes (omega arith))
     (ap (λ (p : ℕ). Refused (Character p)) place)
 
 pub weighed_sum-requires : goal.weighed_sum-requires
 weighed_sum-requires c =
-    let bytes = c.args.digits.now in record { digits_len_bound = omega arith; digits_value = all_digits bytes (omega (arith, c.first_other-place.ensures)) }
+    let bytes = c.args.digits.now in
+    record { digits_len_bound = omega arith; digits_value = all_digits bytes (omega (arith, c.first_other-place.ensures)) }
 
 pub returns : goal.returns
 unfolding check_digit check_of
 returns c =
-    let bytes = c.args.digits.now in let all : first_not is_digit bytes ≡ length bytes = all_digits bytes (omega (arith, c.first_other-place.ensures)) in
+    let bytes = c.args.digits.now in
+    let all : first_not is_digit bytes ≡ length bytes = all_digits bytes (omega (arith, c.first_other-place.ensures)) in
     simp (le-leb 1 (length bytes) (omega arith), le-leb (length bytes) 17 (omega arith), digits_made bytes all)
     (ap (λ (sum : ℕ). Done ((10 - sum % 10) % 10)) c.weighed_sum.ensures.value)

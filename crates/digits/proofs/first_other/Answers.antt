@@ -17,18 +17,21 @@ loop-i-init c =
 
 pub returns-then-not-is_digit : goal.returns-then-not-is_digit
 returns-then-not-is_digit c =
-    let bytes = c.args.bytes.now in let i = c.loop-i.i in
+    let bytes = c.args.bytes.now in
+    let i = c.loop-i.i in
     let other : is_digit (get_or bytes i 0) ≡ false = sym c.is_digit.ensures ∙ c.if-not-is_digit.true in
     omega (arith, first_stops is_digit bytes i 0 (omega arith) other)
 
 pub loop-i-preserved : goal.loop-i-preserved
 loop-i-preserved c =
-    let bytes = c.args.bytes.now in let i = c.loop-i.i in
+    let bytes = c.args.bytes.now in
+    let i = c.loop-i.i in
     let digit : is_digit (get_or bytes i 0) ≡ true = sym c.is_digit.ensures ∙ c.if-not-is_digit.false in
     (omega arith, rw add-one (omega (arith, first_goes is_digit bytes i 0 (omega arith) digit)))
 
 pub returns : goal.returns
 returns c =
-    let bytes = c.args.bytes.now in let i = c.loop-i.i in
+    let bytes = c.args.bytes.now in
+    let i = c.loop-i.i in
     let over : drop i bytes ≡ [] = drop_of_length-le bytes {i = i} (omega arith) in
     omega (arith, ap (first_not is_digit) over, first_of_nil is_digit)

@@ -31,23 +31,29 @@ below c =
 
 bytes : (c : After-right_number-tested) → take c.loop-i.i c.loop-i.number ≡ map byte_of c.args.values.now
 bytes c =
-    let digits = c.args.values.now in let i = c.loop-i.i in
+    let digits = c.args.values.now in
+    let i = c.loop-i.i in
     let long = length-map digits byte_of in
     ap (take i) c.loop-i.invariant.2 ∙ take_at (take i (map byte_of digits)) _ i (rw length-take (omega arith)) ∙ take_all i (map byte_of digits) (omega arith)
 
 tested : (c : After-right_number-tested) → c.right_number-tested.result ≡ answer_of (right_number (length c.args.values.now) (map byte_of c.args.values.now))
 tested c =
-    let digits = c.args.values.now in let whole : c.loop-i.i ≡ length digits = omega arith in
+    let digits = c.args.values.now in
+    let whole : c.loop-i.i ≡ length digits = omega arith in
     c.right_number-tested.ensures ∙ ap₂ (λ (n : ℕ) (number : List ℕ). answer_of (right_number n number)) whole (bytes c)
 
 pub returns-in_default : goal.returns-in_default
 returns-in_default c =
-    let digits = c.args.values.now in let room = length c.args.lent.now in fills_same _ _ _ _ _ (read_as_written digits room (below (goal.at.returns-in_default c).After-right_number-tested))
+    let digits = c.args.values.now in
+    let room = length c.args.lent.now in
+    fills_same _ _ _ _ _ (read_as_written digits room (below (goal.at.returns-in_default c).After-right_number-tested))
     (written_refused (length digits) (map byte_of) (map byte_of digits) room _ (tested (goal.at.returns-in_default c).After-right_number-tested) c.in_default.field-0 _ c.in_default.is)
 
 pub returns : goal.returns
 returns c =
-    let digits = c.args.values.now in let room = length c.args.lent.now in fills_same _ _ _ _ _ (read_as_written digits room (below (goal.at.returns c).After-right_number-tested))
+    let digits = c.args.values.now in
+    let room = length c.args.lent.now in
+    fills_same _ _ _ _ _ (read_as_written digits room (below (goal.at.returns c).After-right_number-tested))
     (written_laid (length digits) (map byte_of) (map byte_of digits) room _ (tested (goal.at.returns c).After-right_number-tested) c.in-Done.field-0 _ _ _ _ c.in-Done.is
     (bytes (goal.at.returns c).After-right_number-tested ∙ ap (map byte_of) (sym (values_of_bytes digits)))
     c.lay.ensures)

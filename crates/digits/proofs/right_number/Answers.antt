@@ -43,33 +43,45 @@ counted c =
 
 all : (c : Else-place-count) → first_not is_digit c.args.number.now ≡ length c.args.number.now
 all c =
-    let number = c.args.number.now in all_digits number (omega (arith, c.first_other-place.ensures))
+    let number = c.args.number.now in
+    all_digits number (omega (arith, c.first_other-place.ensures))
 
 pub weighed_sum-requires : goal.weighed_sum-requires
 weighed_sum-requires c =
-    let n = c.args.count in let number = c.args.number.now in record { digits_len_bound = simp length-take (omega arith); digits_value = pass_take is_digit (n - 1) number 0 (all c) }
+    let n = c.args.count in
+    let number = c.args.number.now in
+    record { digits_len_bound = simp length-take (omega arith); digits_value = pass_take is_digit (n - 1) number 0 (all c) }
 
 pub value_of-requires : goal.value_of-requires
 value_of-requires c =
-    let number = c.args.number.now in let n = c.args.count in (digit_at number (all (goal.at.value_of-requires c).Else-place-count) (n - 1) (omega arith)).0
+    let number = c.args.number.now in
+    let n = c.args.count in
+    (digit_at number (all (goal.at.value_of-requires c).Else-place-count) (n - 1) (omega arith)).0
 
 made-digits : (c : After-value_of) → digits_of c.args.number.now ≡ made (map value_of c.args.number.now)
 made-digits c =
-    let number = c.args.number.now in let all : first_not is_digit c.args.number.now ≡ length c.args.number.now = all_digits number (omega (arith, c.first_other-place.ensures)) in digits_made number all
+    let number = c.args.number.now in
+    let all : first_not is_digit c.args.number.now ≡ length c.args.number.now = all_digits number (omega (arith, c.first_other-place.ensures)) in
+    digits_made number all
 
 tested : (c : After-value_of) → is_right (map value_of c.args.number.now) ≡ eqb ((c.weighed_sum.result + c.value_of.result) % 10) 0
 tested c =
-    let number = c.args.number.now in let n = c.args.count in let counted : length c.args.number.now ≡ c.args.count = c.if-number-count.false in right-sum number n counted
+    let number = c.args.number.now in
+    let n = c.args.count in
+    let counted : length c.args.number.now ≡ c.args.count = c.if-number-count.false in
+    right-sum number n counted
     ∙ sym (ap₂ (λ (sum last : ℕ). eqb ((sum + last) % 10) 0) c.weighed_sum.ensures.value c.value_of.ensures)
 
 pub overflow_add-sum : goal.overflow_add-sum
 overflow_add-sum c =
-    let n = c.args.count in omega (arith, c.weighed_sum.ensures.upper_bound, c.value_of.ensures, c.type_inv.number (n - 1))
+    let n = c.args.count in
+    omega (arith, c.weighed_sum.ensures.upper_bound, c.value_of.ensures, c.type_inv.number (n - 1))
 
 pub returns-then-sum-eq0 : goal.returns-then-sum-eq0
 unfolding right_number
 returns-then-sum-eq0 c =
-    let number = c.args.number.now in let same = counted (goal.at.returns-then-sum-eq0 c).Else-place-count in
+    let number = c.args.number.now in
+    let same = counted (goal.at.returns-then-sum-eq0 c).Else-place-count in
     simp (eq-eqb _ _ same, made-digits (goal.at.returns-then-sum-eq0 c).After-value_of, tested (goal.at.returns-then-sum-eq0 c).After-value_of, eq-eqb _ 0 c.if-sum-eq0.true) (ap Done (sym same ∙ sym (length-map number value_of)))
 
 pub returns-else-sum-eq0 : goal.returns-else-sum-eq0

@@ -26,11 +26,14 @@ loop-i-init c =
 
 pub overflow_sub-values : goal.overflow_sub-values
 overflow_sub-values c =
-    let loop = c.loop-i in (digit_at _ loop.invariant.2.all loop.i (omega arith)).0
+    let loop = c.loop-i in
+    (digit_at _ loop.invariant.2.all loop.i (omega arith)).0
 
 pub loop-i-preserved : goal.loop-i-preserved
 loop-i-preserved c =
-    let number = c.args.number.now in let lent = c.args.values.now in let loop = c.loop-i in (
+    let number = c.args.number.now in
+    let lent = c.args.values.now in
+    let loop = c.loop-i in (
       omega arith,
       simp length-set (omega arith),
       loop.invariant.2,
@@ -39,6 +42,8 @@ loop-i-preserved c =
 
 pub returns : goal.returns
 returns c =
-    let number = c.args.number.now in let lent = c.args.values.now in let loop = c.loop-i in
+    let number = c.args.number.now in
+    let lent = c.args.values.now in
+    let loop = c.loop-i in
     let whole = mapped_whole value_of number lent loop.i (omega arith) (omega arith) in
     own_filled _ _ _ _ (right_of_parts _ _ _ loop.invariant.2 ∙ ap made (sym (loop.invariant.3 ∙ whole))) (omega arith) (omega arith)

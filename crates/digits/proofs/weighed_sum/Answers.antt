@@ -31,11 +31,13 @@ loop-i-init c =
 
 pub value_of-requires : goal.value_of-requires
 value_of-requires c =
-    let digits = c.args.digits.now in (digit_at digits c.requires.digits_value (c.loop-i.i - 1) (omega arith)).0
+    let digits = c.args.digits.now in
+    (digit_at digits c.requires.digits_value (c.loop-i.i - 1) (omega arith)).0
 
 adds-most : (c : After-value_of) → c.loop-i.weight * c.value_of.result ≤ 27
 adds-most c =
-    let digits = c.args.digits.now in let range = digit_at digits c.requires.digits_value (c.loop-i.i - 1) (omega arith) in
+    let digits = c.args.digits.now in
+    let range = digit_at digits c.requires.digits_value (c.loop-i.i - 1) (omega arith) in
     rw c.loop-i.invariant.1 (product_most _ c.value_of.result (omega (arith, c.value_of.ensures)))
 
 pub overflow_mul-sum : goal.overflow_mul-sum
@@ -48,11 +50,13 @@ overflow_add-sum c =
 
 pub overflow_sub-weight : goal.overflow_sub-weight
 overflow_sub-weight c =
-    let digits = c.args.digits.now in omega (arith, weight_most (length digits - c.loop-i.i))
+    let digits = c.args.digits.now in
+    omega (arith, weight_most (length digits - c.loop-i.i))
 
 pub loop-i-preserved : goal.loop-i-preserved
 loop-i-preserved c =
-    let digits = c.args.digits.now in let loop = c.loop-i in
+    let digits = c.args.digits.now in
+    let loop = c.loop-i in
     let i = loop.i - 1 in
     let here : suc i ≡ loop.i = omega arith in
     let passed : suc (length digits - loop.i) ≡ length digits - i = omega arith in (

@@ -26,24 +26,41 @@ left c =
 
 pub returns-in_default : goal.returns-in_default
 returns-in_default c =
-    let message = c.args.message.now in let at = c.loop-element.at in let x = c.args.identifier in let here = found_refused (string_at message at) _ (sym c.in_default.is ∙ c.string_at-found.ensures) in
+    let message = c.args.message.now in
+    let at = c.loop-element.at in
+    let x = c.args.identifier in
+    let here = found_refused (string_at message at) _ (sym c.in_default.is ∙ c.string_at-found.ensures) in
     λ strings e. absurd (never_refused message x at strings (left (goal.at.returns-in_default c).At-loop-element strings e) _ here)
 
 here : (c : In-String) → string_at c.args.message.now c.loop-element.at ≡ made c.in-String.element
 here c =
-    let message = c.args.message.now in let at = c.loop-element.at in let string = c.in-String.element in found_string (string_at message at) string (sym c.in-String.is ∙ c.string_at-found.ensures)
+    let message = c.args.message.now in
+    let at = c.loop-element.at in
+    let string = c.in-String.element in
+    found_string (string_at message at) string (sym c.in-String.is ∙ c.string_at-found.ensures)
 
 bounds : (c : In-String) → c.in-String.element.last ≡ false → (c.in-String.element.next ≤ length c.args.message.now) × (c.loop-element.at + 4 ≤ c.in-String.element.next)
 bounds c goes =
-    let message = c.args.message.now in let at = c.loop-element.at in let string = c.in-String.element in next_within message at string c.loop-element.invariant.0 (here c) goes
+    let message = c.args.message.now in
+    let at = c.loop-element.at in
+    let string = c.in-String.element in
+    next_within message at string c.loop-element.invariant.0 (here c) goes
 
 pub returns-then-element-identifier : goal.returns-then-element-identifier
 returns-then-element-identifier c =
-    let message = c.args.message.now in let x = c.args.identifier in let at = c.loop-element.at in let string = c.in-String.element in λ strings e. sym (ap found_of (left_here message x at strings (left (goal.at.returns-then-element-identifier c).At-loop-element strings e) string (here (goal.at.returns-then-element-identifier c).In-String) c.if-element-identifier.true))
+    let message = c.args.message.now in
+    let x = c.args.identifier in
+    let at = c.loop-element.at in
+    let string = c.in-String.element in
+    λ strings e. sym (ap found_of (left_here message x at strings (left (goal.at.returns-then-element-identifier c).At-loop-element strings e) string (here (goal.at.returns-then-element-identifier c).In-String) c.if-element-identifier.true))
 
 pub returns-then-element : goal.returns-then-element
 returns-then-element c =
-    let message = c.args.message.now in let x = c.args.identifier in let at = c.loop-element.at in let string = c.in-String.element in λ strings e. sym (ap found_of (left_last message x at strings (left (goal.at.returns-then-element c).At-loop-element strings e) string (here (goal.at.returns-then-element c).In-String) c.if-element.true))
+    let message = c.args.message.now in
+    let x = c.args.identifier in
+    let at = c.loop-element.at in
+    let string = c.in-String.element in
+    λ strings e. sym (ap found_of (left_last message x at strings (left (goal.at.returns-then-element c).At-loop-element strings e) string (here (goal.at.returns-then-element c).In-String) c.if-element.true))
 
 pub loop-element-smaller : goal.loop-element-smaller
 loop-element-smaller c =
@@ -51,5 +68,9 @@ loop-element-smaller c =
 
 pub loop-element-preserved : goal.loop-element-preserved
 loop-element-preserved c =
-    let message = c.args.message.now in let x = c.args.identifier in let at = c.loop-element.at in let string = c.in-String.element in let more = c.if-element.false in
+    let message = c.args.message.now in
+    let x = c.args.identifier in
+    let at = c.loop-element.at in
+    let string = c.in-String.element in
+    let more = c.if-element.false in
     ((bounds (goal.at.loop-element-preserved c).In-String more).0, λ strings e. left_more message x at strings (left (goal.at.loop-element-preserved c).At-loop-element strings e) string (here (goal.at.loop-element-preserved c).In-String) c.if-element-identifier.false more)

@@ -25,23 +25,37 @@ returns-then-message-at c =
 
 row_here : (c : After-row_at) → row_at (drop c.args.at c.args.message.now) ≡ c.row_at.result
 row_here c =
-    let at = c.args.at in let message = c.args.message.now in ap row_at (sym (rest_of message at)) ∙ sym c.row_at.ensures
+    let at = c.args.at in
+    let message = c.args.message.now in
+    ap row_at (sym (rest_of message at)) ∙ sym c.row_at.ensures
 
 pub returns-in_default : goal.returns-in_default
 returns-in_default c =
-    let message = c.args.message.now in let at = c.args.at in rw (string_unlisted message at (row_here (goal.at.returns-in_default c).After-row_at ∙ c.in_default.is))
+    let message = c.args.message.now in
+    let at = c.args.at in
+    rw (string_unlisted message at (row_here (goal.at.returns-in_default c).After-row_at ∙ c.in_default.is))
 
 found : (c : After-digits_of) → (identifier_in (drop c.args.at c.args.message.now) ≡ some c.in-Listed.identifier) × (kind_of c.in-Listed.identifier ≡ some c.in-Listed.kind)
 found c =
-    let at = c.args.at in let message = c.args.message.now in let kind = c.in-Listed.kind in let x = c.in-Listed.identifier in let row_here : row_at (drop c.args.at c.args.message.now) ≡ c.row_at.result = ap row_at (sym (rest_of message at)) ∙ sym c.row_at.ensures in row_listed (drop at message) x kind (row_here ∙ c.in-Listed.is)
+    let at = c.args.at in
+    let message = c.args.message.now in
+    let kind = c.in-Listed.kind in
+    let x = c.in-Listed.identifier in
+    let row_here : row_at (drop c.args.at c.args.message.now) ≡ c.row_at.result = ap row_at (sym (rest_of message at)) ∙ sym c.row_at.ensures in
+    row_listed (drop at message) x kind (row_here ∙ c.in-Listed.is)
 
 begin-is : (c : After-digits_of) → (c.args.at + c.digits_of.result) ≡ c.args.at + length (spelled c.in-Listed.identifier)
 begin-is c =
-    let at = c.args.at in ap (λ (n : ℕ). at + n) c.digits_of.ensures
+    let at = c.args.at in
+    ap (λ (n : ℕ). at + n) c.digits_of.ensures
 
 inside : (c : After-digits_of) → (c.args.at + c.digits_of.result) ≤ length c.args.message.now
 inside c =
-    let message = c.args.message.now in let at = c.args.at in let kind = c.in-Listed.kind in let x = c.in-Listed.identifier in omega (arith, (begin-is c), begin_within message at x kind (found c).0 (found c).1 (omega arith))
+    let message = c.args.message.now in
+    let at = c.args.at in
+    let kind = c.in-Listed.kind in
+    let x = c.in-Listed.identifier in
+    omega (arith, (begin-is c), begin_within message at x kind (found c).0 (found c).1 (omega arith))
 
 pub overflow_add-begin : goal.overflow_add-begin
 overflow_add-begin c =
@@ -57,15 +71,36 @@ slice_bounds-data_length-start c =
 
 count_is : (c : After-data_length) → c.data_length.result ≡ length (data_of c.in-Listed.kind (drop (c.args.at + c.digits_of.result) c.args.message.now))
 count_is c =
-    let kind = c.in-Listed.kind in let at = c.args.at in let begin = at + c.digits_of.result in let message = c.args.message.now in let bytes = message in c.data_length.ensures ∙ ap (λ (left : List ℕ). length (data_of kind left)) (rest_of bytes begin)
+    let kind = c.in-Listed.kind in
+    let at = c.args.at in
+    let begin = at + c.digits_of.result in
+    let message = c.args.message.now in
+    let bytes = message in
+    c.data_length.ensures ∙ ap (λ (left : List ℕ). length (data_of kind left)) (rest_of bytes begin)
 
 end-inside : (c : After-data_length) → (c.args.at + c.digits_of.result) + c.data_length.result ≤ length c.args.message.now
 end-inside c =
-    let at = c.args.at in let begin-is : (c.args.at + c.digits_of.result) ≡ c.args.at + length (spelled c.in-Listed.identifier) = ap (λ (n : ℕ). at + n) c.digits_of.ensures in let message = c.args.message.now in let kind = c.in-Listed.kind in let x = c.in-Listed.identifier in let row_here : row_at (drop c.args.at c.args.message.now) ≡ c.row_at.result = ap row_at (sym (rest_of message at)) ∙ sym c.row_at.ensures in let found : (identifier_in (drop c.args.at c.args.message.now) ≡ some c.in-Listed.identifier) × (kind_of c.in-Listed.identifier ≡ some c.in-Listed.kind) = row_listed (drop at message) x kind (row_here ∙ c.in-Listed.is) in let inside : (c.args.at + c.digits_of.result) ≤ length c.args.message.now = omega (arith, begin-is, begin_within message at x kind found.0 found.1 (omega arith)) in let begin = at + c.digits_of.result in let rest = drop begin message in let bytes = message in omega (arith, inside, (count_is c), data_within kind rest, length-drop begin bytes)
+    let at = c.args.at in
+    let begin-is : (c.args.at + c.digits_of.result) ≡ c.args.at + length (spelled c.in-Listed.identifier) = ap (λ (n : ℕ). at + n) c.digits_of.ensures in
+    let message = c.args.message.now in
+    let kind = c.in-Listed.kind in
+    let x = c.in-Listed.identifier in
+    let row_here : row_at (drop c.args.at c.args.message.now) ≡ c.row_at.result = ap row_at (sym (rest_of message at)) ∙ sym c.row_at.ensures in
+    let found : (identifier_in (drop c.args.at c.args.message.now) ≡ some c.in-Listed.identifier) × (kind_of c.in-Listed.identifier ≡ some c.in-Listed.kind) = row_listed (drop at message) x kind (row_here ∙ c.in-Listed.is) in
+    let inside : (c.args.at + c.digits_of.result) ≤ length c.args.message.now = omega (arith, begin-is, begin_within message at x kind found.0 found.1 (omega arith)) in
+    let begin = at + c.digits_of.result in
+    let rest = drop begin message in
+    let bytes = message in
+    omega (arith, inside, (count_is c), data_within kind rest, length-drop begin bytes)
 
 part-is : (c : After-data_length) → take ((c.args.at + c.digits_of.result) + c.data_length.result - (c.args.at + c.digits_of.result)) (drop (c.args.at + c.digits_of.result) c.args.message.now) ≡ data_of c.in-Listed.kind (drop (c.args.at + c.digits_of.result) c.args.message.now)
 part-is c =
-    let message = c.args.message.now in let at = c.args.at in let begin = at + c.digits_of.result in let rest = drop begin message in let kind = c.in-Listed.kind in ap (λ (n : ℕ). take n rest) (add-sub_cancel_left begin c.data_length.result ∙ (count_is c))
+    let message = c.args.message.now in
+    let at = c.args.at in
+    let begin = at + c.digits_of.result in
+    let rest = drop begin message in
+    let kind = c.in-Listed.kind in
+    ap (λ (n : ℕ). take n rest) (add-sub_cancel_left begin c.data_length.result ∙ (count_is c))
     ∙ data_part kind rest
 
 pub overflow_add-end : goal.overflow_add-end
@@ -78,16 +113,30 @@ slice_bounds-right_data-end c =
 
 pub right_data-requires : goal.right_data-requires
 right_data-requires c =
-    let x = c.in-Listed.identifier in let kind = c.in-Listed.kind in sized_if_listed x kind (found (goal.at.right_data-requires c).After-digits_of).1
+    let x = c.in-Listed.identifier in
+    let kind = c.in-Listed.kind in
+    sized_if_listed x kind (found (goal.at.right_data-requires c).After-digits_of).1
 
 judged : (c : After-right_data) → c.right_data.result ≡ right_data c.in-Listed.kind (data_of c.in-Listed.kind (drop (c.args.at + c.digits_of.result) c.args.message.now))
 judged c =
-    let kind = c.in-Listed.kind in let message = c.args.message.now in let at = c.args.at in let begin = at + c.digits_of.result in let rest = drop begin message in let bytes = message in let count_is : c.data_length.result ≡ length (data_of c.in-Listed.kind (drop (c.args.at + c.digits_of.result) c.args.message.now)) = c.data_length.ensures ∙ ap (λ (left : List ℕ). length (data_of kind left)) (rest_of bytes begin) in let part-is : take ((c.args.at + c.digits_of.result) + c.data_length.result - (c.args.at + c.digits_of.result)) (drop (c.args.at + c.digits_of.result) c.args.message.now) ≡ data_of c.in-Listed.kind (drop (c.args.at + c.digits_of.result) c.args.message.now) = ap (λ (n : ℕ). take n rest) (add-sub_cancel_left begin c.data_length.result ∙ count_is)
+    let kind = c.in-Listed.kind in
+    let message = c.args.message.now in
+    let at = c.args.at in
+    let begin = at + c.digits_of.result in
+    let rest = drop begin message in
+    let bytes = message in
+    let count_is : c.data_length.result ≡ length (data_of c.in-Listed.kind (drop (c.args.at + c.digits_of.result) c.args.message.now)) = c.data_length.ensures ∙ ap (λ (left : List ℕ). length (data_of kind left)) (rest_of bytes begin) in
+    let part-is : take ((c.args.at + c.digits_of.result) + c.data_length.result - (c.args.at + c.digits_of.result)) (drop (c.args.at + c.digits_of.result) c.args.message.now) ≡ data_of c.in-Listed.kind (drop (c.args.at + c.digits_of.result) c.args.message.now) = ap (λ (n : ℕ). take n rest) (add-sub_cancel_left begin c.data_length.result ∙ count_is)
     ∙ data_part kind rest in c.right_data.ensures ∙ ap (right_data kind) part-is
 
 pub returns-then-not-right_data : goal.returns-then-not-right_data
 returns-then-not-right_data c =
-    let message = c.args.message.now in let at = c.args.at in let x = c.in-Listed.identifier in let kind = c.in-Listed.kind in let begin = at + c.digits_of.result in let wrong = sym (judged (goal.at.returns-then-not-right_data c).After-right_data) ∙ c.if-not-right_data.true in
+    let message = c.args.message.now in
+    let at = c.args.at in
+    let x = c.in-Listed.identifier in
+    let kind = c.in-Listed.kind in
+    let begin = at + c.digits_of.result in
+    let wrong = sym (judged (goal.at.returns-then-not-right_data c).After-right_data) ∙ c.if-not-right_data.true in
     rw (string_wrong message at x kind (found (goal.at.returns-then-not-right_data c).After-digits_of).0 (found (goal.at.returns-then-not-right_data c).After-digits_of).1 begin (begin-is (goal.at.returns-then-not-right_data c).After-digits_of) wrong)
 
 pub next_after-requires : goal.next_after-requires
@@ -96,6 +145,12 @@ next_after-requires c =
 
 pub returns : goal.returns
 returns c =
-    let message = c.args.message.now in let bytes = message in let x = c.in-Listed.identifier in let kind = c.in-Listed.kind in let at = c.args.at in let begin = at + c.digits_of.result in let right = sym (judged (goal.at.returns c).After-right_data) ∙ c.if-not-right_data.false in
+    let message = c.args.message.now in
+    let bytes = message in
+    let x = c.in-Listed.identifier in
+    let kind = c.in-Listed.kind in
+    let at = c.args.at in
+    let begin = at + c.digits_of.result in
+    let right = sym (judged (goal.at.returns c).After-right_data) ∙ c.if-not-right_data.false in
     ap String (element_is bytes x kind begin c.data_length.result c.next_after.result (count_is (goal.at.returns c).After-data_length) c.next_after.ensures)
     ∙ sym (ap found_of (string_right bytes at x kind (found (goal.at.returns c).After-digits_of).0 (found (goal.at.returns c).After-digits_of).1 begin (begin-is (goal.at.returns c).After-digits_of) right))

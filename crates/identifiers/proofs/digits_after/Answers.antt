@@ -23,12 +23,14 @@ returns-in-31 c =
 pub returns-in-24 : goal.returns-in-24
 unfolding digits_after place_in first_not
 returns-in-24 c =
-    let pair = c.args.pair in sym (eqb-true _ 3 (in_run (are 3) 24 2 true tt pair (omega arith) (omega arith)))
+    let pair = c.args.pair in
+    sym (eqb-true _ 3 (in_run (are 3) 24 2 true tt pair (omega arith) (omega arith)))
 
 pub returns-in-24-2 : goal.returns-in-24-2
 unfolding digits_after place_in first_not
 returns-in-24-2 c =
-    let pair = c.args.pair in sym (eqb-true _ 3 (in_run (are 3) 40 2 true tt pair (omega arith) (omega arith)))
+    let pair = c.args.pair in
+    sym (eqb-true _ 3 (in_run (are 3) 40 2 true tt pair (omega arith) (omega arith)))
 
 pub returns-in_default : goal.returns-in_default
 unfolding digits_after place_in first_not
@@ -46,4 +48,5 @@ returns-in_default-2 c =
 pub returns-in_default-3 : goal.returns-in_default-3
 unfolding digits_after place_in first_not
 returns-in_default-3 c =
-    let pair = c.args.pair in sym (eqb-true _ 2 (in_run (are 2) 42 58 true tt pair (omega arith) (omega (arith, c.requires))))
+    let pair = c.args.pair in
+    sym (eqb-true _ 2 (in_run (are 2) 42 58 true tt pair (omega arith) (omega (arith, c.requires))))

@@ -13,7 +13,9 @@ value_of-requires c =
 
 pub overflow_mul-result : goal.overflow_mul-result
 overflow_mul-result c =
-    let bytes = c.args.bytes.now in let at = c.args.at in let range = digit_range (get_or bytes at 0) c.requires.at_value in
+    let bytes = c.args.bytes.now in
+    let at = c.args.at in
+    let range = digit_range (get_or bytes at 0) c.requires.at_value in
     omega (arith, c.value_of.ensures)
 
 pub value_of-requires-2 : goal.value_of-requires-2
@@ -22,7 +24,9 @@ value_of-requires-2 c =
 
 small : (c : After-value_of-2) → 10 * c.value_of.result + c.value_of-2.result < 100
 small c =
-    let bytes = c.args.bytes.now in let at = c.args.at in let first = digit_range (get_or bytes at 0) c.requires.at_value in
+    let bytes = c.args.bytes.now in
+    let at = c.args.at in
+    let first = digit_range (get_or bytes at 0) c.requires.at_value in
     let second = digit_range (get_or bytes (at + 1) 0) c.requires.at_value_2 in
     omega (arith, c.value_of.ensures, c.value_of-2.ensures)
 

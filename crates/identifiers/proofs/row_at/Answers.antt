@@ -37,39 +37,47 @@ count_is c =
 
 pub returns-then-run-count : goal.returns-then-run-count
 returns-then-run-count c =
-    let bytes = c.args.bytes.now in sym (too_short bytes (omega (arith, run (goal.at.returns-then-run-count c).After-digits_after-count, count_is (goal.at.returns-then-run-count c).After-digits_after-count)))
+    let bytes = c.args.bytes.now in
+    sym (too_short bytes (omega (arith, run (goal.at.returns-then-run-count c).After-digits_after-count, count_is (goal.at.returns-then-run-count c).After-digits_after-count)))
 
 pub returns-then-count-eq2 : goal.returns-then-count-eq2
 returns-then-count-eq2 c =
-    let bytes = c.args.bytes.now in c.row_of.ensures ∙ ap row_of (pair_is (goal.at.returns-then-count-eq2 c).After-digits_after-count) ∙ sym (decided_by_two bytes (omega (arith, run (goal.at.returns-then-count-eq2 c).After-digits_after-count)) (sym (count_is (goal.at.returns-then-count-eq2 c).After-digits_after-count) ∙ c.if-count-eq2.true))
+    let bytes = c.args.bytes.now in
+    c.row_of.ensures ∙ ap row_of (pair_is (goal.at.returns-then-count-eq2 c).After-digits_after-count) ∙ sym (decided_by_two bytes (omega (arith, run (goal.at.returns-then-count-eq2 c).After-digits_after-count)) (sym (count_is (goal.at.returns-then-count-eq2 c).After-digits_after-count) ∙ c.if-count-eq2.true))
 
 pub bounds-bytes-2 : goal.bounds-bytes-2
 bounds-bytes-2 c =
-    let bytes = c.args.bytes.now in omega (arith, run (goal.at.bounds-bytes-2 c).After-digits_after-count, run_within bytes)
+    let bytes = c.args.bytes.now in
+    omega (arith, run (goal.at.bounds-bytes-2 c).After-digits_after-count, run_within bytes)
 
 pub value_of-requires : goal.value_of-requires
 value_of-requires c =
-    let bytes = c.args.bytes.now in (digit_range _ (leading_digit bytes 2 (omega (arith, run (goal.at.value_of-requires c).After-digits_after-count)))).0
+    let bytes = c.args.bytes.now in
+    (digit_range _ (leading_digit bytes 2 (omega (arith, run (goal.at.value_of-requires c).After-digits_after-count)))).0
 
 pub overflow_add-pair : goal.overflow_add-pair
 overflow_add-pair c =
-    let bytes = c.args.bytes.now in let digit = digit_range (get_or bytes 2 0) (leading_digit bytes 2 (omega (arith, run (goal.at.overflow_add-pair c).After-digits_after-count))) in
+    let bytes = c.args.bytes.now in
+    let digit = digit_range (get_or bytes 2 0) (leading_digit bytes 2 (omega (arith, run (goal.at.overflow_add-pair c).After-digits_after-count))) in
     omega (arith, c.value_of.ensures, c.pair_at-pair.ensures.upper_bound)
 
 pub returns-then-count-eq3 : goal.returns-then-count-eq3
 returns-then-count-eq3 c =
-    let bytes = c.args.bytes.now in c.row_of-then-count-eq3.ensures
+    let bytes = c.args.bytes.now in
+    c.row_of-then-count-eq3.ensures
     ∙ ap₂ (λ (p d : ℕ). row_of (10 * p + d)) (pair_is (goal.at.returns-then-count-eq3 c).After-digits_after-count) c.value_of.ensures
     ∙ sym (decided_by_three bytes (omega (arith, run (goal.at.returns-then-count-eq3 c).After-digits_after-count)) (sym (count_is (goal.at.returns-then-count-eq3 c).After-digits_after-count) ∙ c.if-count-eq3.true))
 
 pub pair_at-requires : goal.pair_at-requires
 pair_at-requires c =
-    let bytes = c.args.bytes.now in let four : 4 ≤ first_not is_digit (take 4 bytes) = omega (arith, run (goal.at.pair_at-requires c).After-digits_after-count, count_is (goal.at.pair_at-requires c).After-digits_after-count, (after_bounds (pair_at bytes 0)).0) in
+    let bytes = c.args.bytes.now in
+    let four : 4 ≤ first_not is_digit (take 4 bytes) = omega (arith, run (goal.at.pair_at-requires c).After-digits_after-count, count_is (goal.at.pair_at-requires c).After-digits_after-count, (after_bounds (pair_at bytes 0)).0) in
     record { at_in_bounds = omega (arith, run_within bytes); at_value = leading_digit bytes 2 (omega arith); at_value_2 = leading_digit bytes 3 (omega arith) }
 
 pub returns : goal.returns
 returns c =
-    let bytes = c.args.bytes.now in let count : digits_after (pair_at bytes 0) ≡ 4 = omega (arith, count_is (goal.at.returns c).After-digits_after-count, after_bounds (pair_at bytes 0)) in
+    let bytes = c.args.bytes.now in
+    let count : digits_after (pair_at bytes 0) ≡ 4 = omega (arith, count_is (goal.at.returns c).After-digits_after-count, after_bounds (pair_at bytes 0)) in
     c.row_of-2.ensures
     ∙ ap₂ (λ (p q : ℕ). row_of (100 * p + q)) (pair_is (goal.at.returns c).After-digits_after-count) c.pair_at.ensures.value
     ∙ sym (decided_by_four bytes (omega (arith, run (goal.at.returns c).After-digits_after-count, count_is (goal.at.returns c).After-digits_after-count)) count)

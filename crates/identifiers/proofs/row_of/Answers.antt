@@ -50,7 +50,8 @@ returns-in-1 c =
 pub returns-in-410 : goal.returns-in-410
 unfolding place_in_table table measures place_in first_not
 returns-in-410 c =
-    let identifier = c.args.identifier in let x = identifier in
+    let identifier = c.args.identifier in
+    let x = identifier in
     row_at_place x 2 (exactly 13 DigitsWithCheck)
     (in_run (in_row 2) 410 6 true tt x (omega arith) (omega arith))
     refl c.exactly-in-410.result c.exactly-in-410.ensures
@@ -70,7 +71,8 @@ returns-in-11 c =
 pub returns-then-is_measure : goal.returns-then-is_measure
 unfolding place_in_table table measures place_in first_not
 returns-then-is_measure c =
-    let identifier = c.args.identifier in let x = identifier in
+    let identifier = c.args.identifier in
+    let x = identifier in
     let measure : among measures x ≡ true = sym c.is_measure.ensures ∙ c.if-is_measure.true in
     row_at_place x 5 (exactly 6 Digits)
     (all_among (in_row 5) measures refl x measure)

@@ -7,11 +7,13 @@ use Rattle.requests.proofs.in_room.Goals as goal
 
 pub returns-in_default : goal.returns-in_default
 returns-in_default c =
-    let line = c.args.line.now in record { value = none_roomed line _ _ c.word_end-end.ensures.value (sym c.in_default.is ∙ c.number_in.ensures); within = tt }
+    let line = c.args.line.now in
+    record { value = none_roomed line _ _ c.word_end-end.ensures.value (sym c.in_default.is ∙ c.number_in.ensures); within = tt }
 
 pub returns-then-end-line : goal.returns-then-end-line
 returns-then-end-line c =
-    let line = c.args.line.now in record { value = room_alone line _ _ c.word_end-end.ensures.value (sym c.in-Is.is ∙ c.number_in.ensures) c.if-end-line.true; within = tt }
+    let line = c.args.line.now in
+    record { value = room_alone line _ _ c.word_end-end.ensures.value (sym c.in-Is.is ∙ c.number_in.ensures) c.if-end-line.true; within = tt }
 
 pub call_at-requires : goal.call_at-requires
 call_at-requires c =
@@ -19,7 +21,8 @@ call_at-requires c =
 
 pub returns : goal.returns
 returns c =
-    let line = c.args.line.now in let made = room_made line _ _ c.word_end-end.ensures.value (sym c.in-Is.is ∙ c.number_in.ensures) c.if-end-line.false in
+    let line = c.args.line.now in
+    let made = room_made line _ _ c.word_end-end.ensures.value (sym c.in-Is.is ∙ c.number_in.ensures) c.if-end-line.false in
     record { value = c.call_at.ensures.value ∙ made; within = c.call_at.ensures.within }
 
 pub word_end-end-requires : goal.word_end-end-requires

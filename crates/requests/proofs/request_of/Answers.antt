@@ -14,14 +14,17 @@ returns-then-line-eq0 c =
 
 pub returns-then-not-equal : goal.returns-then-not-equal
 returns-then-not-equal c =
-    let line = c.args.line.now in record { value = c.call_at.ensures.value ∙ call_asked line _ c.word_end-end.ensures.value c.if-line-eq0.false c.equal.ensures c.if-not-equal.true; within = c.call_at.ensures.within }
+    let line = c.args.line.now in
+    record { value = c.call_at.ensures.value ∙ call_asked line _ c.word_end-end.ensures.value c.if-line-eq0.false c.equal.ensures c.if-not-equal.true; within = c.call_at.ensures.within }
 
 pub returns-then-end-line : goal.returns-then-end-line
 returns-then-end-line c =
-    let line = c.args.line.now in record { value = places_missing line _ c.word_end-end.ensures.value c.if-line-eq0.false c.equal.ensures c.if-not-equal.false c.if-end-line.true; within = tt }
+    let line = c.args.line.now in
+    record { value = places_missing line _ c.word_end-end.ensures.value c.if-line-eq0.false c.equal.ensures c.if-not-equal.false c.if-end-line.true; within = tt }
 
 pub returns : goal.returns
 returns c =
-    let line = c.args.line.now in record { value = c.in_room.ensures.value ∙ room_asked line _ c.word_end-end.ensures.value c.if-line-eq0.false c.equal.ensures c.if-not-equal.false c.if-end-line.false; within = c.in_room.ensures.within }
+    let line = c.args.line.now in
+    record { value = c.in_room.ensures.value ∙ room_asked line _ c.word_end-end.ensures.value c.if-line-eq0.false c.equal.ensures c.if-not-equal.false c.if-end-line.false; within = c.in_room.ensures.within }
 
 -- ANSWER 7: (λ c κs. (omega arith, omega arith))

@@ -44,11 +44,13 @@ starts_in_c-c-requires c =
 
 is-best : (c : After-start_of) → (best_spelling c.args.message.now) ≡ c.start_of.result ∷ 102 ∷ from c.starts_in_c-c.result c.args.message.now
 is-best c =
-    let message = c.args.message.now in found message c.plan.result c.start_of.result c.starts_in_c-c.result c.plan.ensures.value c.starts_in_c-c.ensures c.start_of.ensures
+    let message = c.args.message.now in
+    found message c.plan.result c.start_of.result c.starts_in_c-c.result c.plan.ensures.value c.starts_in_c-c.ensures c.start_of.ensures
 
 pub loop-i-init : goal.loop-i-init
 loop-i-init c =
-    let message = c.args.message.now in let best = best_spelling message in (
+    let message = c.args.message.now in
+    let best = best_spelling message in (
       omega arith,
       refl,
       record {
@@ -69,7 +71,10 @@ step_from-step-requires c =
 
 within : (c : After-step_from-step) → c.loop-i.n < length (best_spelling c.args.message.now)
 within c =
-    let message = c.args.message.now in let best = best_spelling message in let begun = begin c.start_of.result c.args.values.now in value_within best begun message c.loop-i.c c.loop-i.i c.loop-i.n c.loop-i.values c.loop-i.invariant.2 c.step_from-step.result c.step_from-step.ensures
+    let message = c.args.message.now in
+    let best = best_spelling message in
+    let begun = begin c.start_of.result c.args.values.now in
+    value_within best begun message c.loop-i.c c.loop-i.i c.loop-i.n c.loop-i.values c.loop-i.invariant.2 c.step_from-step.result c.step_from-step.ensures
 
 pub bounds-values-n : goal.bounds-values-n
 bounds-values-n c =
@@ -77,11 +82,15 @@ bounds-values-n c =
 
 pub overflow_add-n : goal.overflow_add-n
 overflow_add-n c =
-    let message = c.args.message.now in omega (arith, within c, best_short message, c.requires.message_len_bound)
+    let message = c.args.message.now in
+    omega (arith, within c, best_short message, c.requires.message_len_bound)
 
 pub loop-i-preserved : goal.loop-i-preserved
 loop-i-preserved c =
-    let message = c.args.message.now in let best = best_spelling message in let begun = begin c.start_of.result c.args.values.now in let at = c.loop-i in (
+    let message = c.args.message.now in
+    let best = best_spelling message in
+    let begun = begin c.start_of.result c.args.values.now in
+    let at = c.loop-i in (
       c.step_from-step.ensures.within,
       rw length-set at.invariant.1,
       written_more best begun message at.c at.i at.n at.values at.invariant.2 c.step_from-step.result c.step_from-step.ensures,
@@ -93,11 +102,14 @@ shape_of-values c =
 
 pub returns : goal.returns
 returns c =
-    let message = c.args.message.now in let best = best_spelling message in let at = c.loop-i in
+    let message = c.args.message.now in
+    let best = best_spelling message in
+    let at = c.loop-i in
     let w = at.invariant.2 in
     let none : drop at.n best ≡ [] = w.left ∙ nothing_left at.c message at.i (omega arith) in
     let all : length best ≤ at.n = omega (arith, ap length none, length-drop at.n best) in
-    let two : 2 ≤ at.n = omega (arith, all, ap length (is-best (goal.at.returns c).After-start_of)) in record {
+    let two : 2 ≤ at.n = omega (arith, all, ap length (is-best (goal.at.returns c).After-start_of)) in
+    record {
       value = omega (arith, all, w.few);
       values_after = w.lent
           ∙ ap₂ (λ (front back : List ℕ). front ++ back) (take_all at.n best all)

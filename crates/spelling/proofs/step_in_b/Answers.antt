@@ -30,14 +30,17 @@ returns-then-state-ge-IN_C c =
 
 pub returns-then-byte-eq-SEPARATOR : goal.returns-then-byte-eq-SEPARATOR
 returns-then-byte-eq-SEPARATOR c =
-    let byte = get_or c.args.message.now c.args.at 0 in let is : 102 ≡ value_b byte = sym (rw (eq-eqb byte separator c.if-byte-eq-SEPARATOR.true)) in
+    let byte = get_or c.args.message.now c.args.at 0 in
+    let is : 102 ≡ value_b byte = sym (rw (eq-eqb byte separator c.if-byte-eq-SEPARATOR.true)) in
     in_b c.args.message.now c.args.at c.requires.at_in_bounds c.args.state c.requires.state_value c.if-state-ge-IN_C.false 102 is
 
 pub overflow_sub-result : goal.overflow_sub-result
 overflow_sub-result c =
-    let byte = get_or c.args.message.now c.args.at 0 in least_other byte (all_pass is_message_byte c.args.message.now c.requires.message_value c.args.at 0 c.requires.at_in_bounds) c.if-byte-eq-SEPARATOR.false
+    let byte = get_or c.args.message.now c.args.at 0 in
+    least_other byte (all_pass is_message_byte c.args.message.now c.requires.message_value c.args.at 0 c.requires.at_in_bounds) c.if-byte-eq-SEPARATOR.false
 
 pub returns : goal.returns
 returns c =
-    let byte = get_or c.args.message.now c.args.at 0 in let is : byte - 32 ≡ value_b byte = sym (rw (ne_eqb byte separator c.if-byte-eq-SEPARATOR.false)) in
+    let byte = get_or c.args.message.now c.args.at 0 in
+    let is : byte - 32 ≡ value_b byte = sym (rw (ne_eqb byte separator c.if-byte-eq-SEPARATOR.false)) in
     in_b c.args.message.now c.args.at c.requires.at_in_bounds c.args.state c.requires.state_value c.if-state-ge-IN_C.false (byte - 32) is

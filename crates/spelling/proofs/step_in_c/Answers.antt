@@ -17,19 +17,31 @@ returns-then-byte-eq-SEPARATOR c =
 
 first : (c : Else-byte-eq-SEPARATOR) → (48 ≤ get_or c.args.message.now c.args.at 0) × (get_or c.args.message.now c.args.at 0 ≤ 57)
 first c =
-    let at = c.args.at in let message = c.args.message.now in let stays = c.if-state-lt-STAYS.false in pair_first message at c.requires.at_in_bounds c.args.state c.requires.state_value stays c.if-byte-eq-SEPARATOR.false
+    let at = c.args.at in
+    let message = c.args.message.now in
+    let stays = c.if-state-lt-STAYS.false in
+    pair_first message at c.requires.at_in_bounds c.args.state c.requires.state_value stays c.if-byte-eq-SEPARATOR.false
 
 second : (c : Else-byte-eq-SEPARATOR) → (48 ≤ get_or c.args.message.now (c.args.at + 1) 0) × (get_or c.args.message.now (c.args.at + 1) 0 ≤ 57)
 second c =
-    let at = c.args.at in let message = c.args.message.now in let stays = c.if-state-lt-STAYS.false in pair_second message at c.requires.at_in_bounds c.args.state c.requires.state_value stays c.if-byte-eq-SEPARATOR.false
+    let at = c.args.at in
+    let message = c.args.message.now in
+    let stays = c.if-state-lt-STAYS.false in
+    pair_second message at c.requires.at_in_bounds c.args.state c.requires.state_value stays c.if-byte-eq-SEPARATOR.false
 
 within : (c : Else-byte-eq-SEPARATOR) → c.args.at + 1 < length c.args.message.now
 within c =
-    let at = c.args.at in let message = c.args.message.now in let stays = c.if-state-lt-STAYS.false in pair_within message at c.requires.at_in_bounds c.args.state c.requires.state_value stays c.if-byte-eq-SEPARATOR.false
+    let at = c.args.at in
+    let message = c.args.message.now in
+    let stays = c.if-state-lt-STAYS.false in
+    pair_within message at c.requires.at_in_bounds c.args.state c.requires.state_value stays c.if-byte-eq-SEPARATOR.false
 
 pub returns : goal.returns
 returns c =
-    let message = c.args.message.now in let at = c.args.at in let stays = c.if-state-lt-STAYS.false in in_c_paired message at c.requires.at_in_bounds c.args.state c.requires.state_value stays c.if-byte-eq-SEPARATOR.false
+    let message = c.args.message.now in
+    let at = c.args.at in
+    let stays = c.if-state-lt-STAYS.false in
+    in_c_paired message at c.requires.at_in_bounds c.args.state c.requires.state_value stays c.if-byte-eq-SEPARATOR.false
 
 pub overflow_sub-result : goal.overflow_sub-result
 overflow_sub-result c =

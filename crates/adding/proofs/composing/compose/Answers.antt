@@ -15,7 +15,8 @@ use Rattle.adding.proofs.composing.compose.Goals as goal
 
 front_long : (c : After-digits_of-size) → length (take c.args.count c.args.buffer.now) ≡ c.args.count
 front_long c =
-    let buffer = c.args.buffer.now in length-take-le c.args.count buffer c.requires.count_in_bounds
+    let buffer = c.args.buffer.now in
+    length-take-le c.args.count buffer c.requires.count_in_bounds
 
 closer-long : (c : After-digits_of-size) → length (take c.args.closing (separator ∷ [])) ≡ c.args.closing
 closer-long c =
@@ -23,7 +24,12 @@ closer-long c =
 
 message-long : (c : After-digits_of-size) → length ((take c.args.count c.args.buffer.now) ++ (take c.args.closing (separator ∷ [])) ++ spelled c.args.identifier ++ c.args.content.now) ≡ c.args.count + c.args.closing + c.digits_of-size.result + length c.args.content.now
 message-long c =
-    let closer = take c.args.closing (separator ∷ []) in let buffer = c.args.buffer.now in let front = take c.args.count buffer in let x = c.args.identifier in let content = c.args.content.now in omega (arith, length_of_four front closer (spelled x) content, (front_long c), (closer-long c), c.digits_of-size.ensures)
+    let closer = take c.args.closing (separator ∷ []) in
+    let buffer = c.args.buffer.now in
+    let front = take c.args.count buffer in
+    let x = c.args.identifier in
+    let content = c.args.content.now in
+    omega (arith, length_of_four front closer (spelled x) content, (front_long c), (closer-long c), c.digits_of-size.ensures)
 
 digits_are : (c : After-spelling-digits) → (take c.digits_of-size.result c.spelling-digits.result) ≡ spelled c.args.identifier
 digits_are c =
@@ -31,16 +37,36 @@ digits_are c =
 
 done-long : (c : After-put-at-2) → length ((take c.args.count c.args.buffer.now) ++ (take c.args.closing (separator ∷ [])) ++ (take c.digits_of-size.result c.spelling-digits.result)) ≡ c.put-at-2.result
 done-long c =
-    let buffer = c.args.buffer.now in let front = take c.args.count buffer in let closer = take c.args.closing (separator ∷ []) in let digits = take c.digits_of-size.result c.spelling-digits.result in let front_long : length (take c.args.count c.args.buffer.now) ≡ c.args.count = length-take-le c.args.count buffer c.requires.count_in_bounds in let closed-long : length ((take c.args.count c.args.buffer.now) ++ (take c.args.closing (separator ∷ []))) ≡ c.put-at.result = omega (arith, length-append front closer, front_long, c.put-at.ensures.value) in omega (arith, length-append (front ++ closer) digits, closed-long, c.put-at-2.ensures.value)
+    let buffer = c.args.buffer.now in
+    let front = take c.args.count buffer in
+    let closer = take c.args.closing (separator ∷ []) in
+    let digits = take c.digits_of-size.result c.spelling-digits.result in
+    let front_long : length (take c.args.count c.args.buffer.now) ≡ c.args.count = length-take-le c.args.count buffer c.requires.count_in_bounds in
+    let closed-long : length ((take c.args.count c.args.buffer.now) ++ (take c.args.closing (separator ∷ []))) ≡ c.put-at.result = omega (arith, length-append front closer, front_long, c.put-at.ensures.value) in
+    omega (arith, length-append (front ++ closer) digits, closed-long, c.put-at-2.ensures.value)
 
 held : (c : After-put-at-2) → c.put-at-2.new.to ≡ ((take c.args.count c.args.buffer.now) ++ (take c.args.closing (separator ∷ [])) ++ (take c.digits_of-size.result c.spelling-digits.result)) ++ drop c.put-at-2.result c.args.buffer.now
 held c =
-    let buffer = c.args.buffer.now in let front = take c.args.count buffer in let closer = take c.args.closing (separator ∷ []) in let digits = take c.digits_of-size.result c.spelling-digits.result in let front_long : length (take c.args.count c.args.buffer.now) ≡ c.args.count = length-take-le c.args.count buffer c.requires.count_in_bounds in let closed-long : length ((take c.args.count c.args.buffer.now) ++ (take c.args.closing (separator ∷ []))) ≡ c.put-at.result = omega (arith, length-append front closer, front_long, c.put-at.ensures.value) in c.put-at-2.ensures.to_after
+    let buffer = c.args.buffer.now in
+    let front = take c.args.count buffer in
+    let closer = take c.args.closing (separator ∷ []) in
+    let digits = take c.digits_of-size.result c.spelling-digits.result in
+    let front_long : length (take c.args.count c.args.buffer.now) ≡ c.args.count = length-take-le c.args.count buffer c.requires.count_in_bounds in
+    let closed-long : length ((take c.args.count c.args.buffer.now) ++ (take c.args.closing (separator ∷ []))) ≡ c.put-at.result = omega (arith, length-append front closer, front_long, c.put-at.ensures.value) in
+    c.put-at-2.ensures.to_after
     ∙ put_next buffer (front ++ closer) digits _ c.put-at.result c.put-at-2.result c.put-at.ensures.to_after closed-long c.put-at-2.ensures.value
 
 pub returns : goal.returns
 returns c =
-    let buffer = c.args.buffer.now in let front = take c.args.count buffer in let closer = take c.args.closing (separator ∷ []) in let digits = take c.digits_of-size.result c.spelling-digits.result in let done = front ++ closer ++ digits in let content = c.args.content.now in let x = c.args.identifier in let message = front ++ closer ++ spelled x ++ content in let whole : done ++ content ≡ message = ap (λ (bytes : List ℕ). front ++ closer ++ bytes ++ content) (digits_are (goal.at.returns c).After-spelling-digits) in
+    let buffer = c.args.buffer.now in
+    let front = take c.args.count buffer in
+    let closer = take c.args.closing (separator ∷ []) in
+    let digits = take c.digits_of-size.result c.spelling-digits.result in
+    let done = front ++ closer ++ digits in
+    let content = c.args.content.now in
+    let x = c.args.identifier in
+    let message = front ++ closer ++ spelled x ++ content in
+    let whole : done ++ content ≡ message = ap (λ (bytes : List ℕ). front ++ closer ++ bytes ++ content) (digits_are (goal.at.returns c).After-spelling-digits) in
     let end : c.put.result ≡ length message = c.put.ensures.value ∙ omega (arith, done-long (goal.at.returns c).After-put-at-2, ap length whole, length-append done content) in
     let stays = c.put.ensures.to_after ∙ put_next buffer done content _ c.put-at-2.result c.put.result (held (goal.at.returns c).After-put-at-2) (done-long (goal.at.returns c).After-put-at-2) c.put.ensures.value in
     rw (laying_made message (length buffer) (omega (arith, message-long (goal.at.returns c).After-digits_of-size, c.if-buffer-end.false)))

@@ -28,15 +28,19 @@ returns-then-old-lt1 c =
 
 found-is : (c : After-sought-found) → (strings : List Element) → sofar c.args.old.now ≡ made strings → c.sought-found.result ≡ found_of (sought c.args.identifier strings)
 found-is c strings e =
-    let old = c.args.old.now in c.sought-found.ensures strings (tested_made old strings (sym (sofar_tested old (omega arith)) ∙ e)).strings
+    let old = c.args.old.now in
+    c.sought-found.ensures strings (tested_made old strings (sym (sofar_tested old (omega arith)) ∙ e)).strings
 
 comes-to : (c : After-sought-found) → (strings : List Element) → sofar c.args.old.now ≡ made strings → (o : Outcome Element) → sought c.args.identifier strings ≡ o → answer_of (unused_in strings c.args.identifier (length c.args.old.now)) ≡ answer_of (o >>= after c.args.identifier (length c.args.old.now))
 comes-to c strings e o is =
-    let old = c.args.old.now in let x = c.args.identifier in ap answer_of (unused_sought x (length old) old strings (omega arith) e ∙ ap (λ (p : Outcome Element). p >>= after x (length old)) is)
+    let old = c.args.old.now in
+    let x = c.args.identifier in
+    ap answer_of (unused_sought x (length old) old strings (omega arith) e ∙ ap (λ (p : Outcome Element). p >>= after x (length old)) is)
 
 pub returns-in-Refused : goal.returns-in-Refused
 returns-in-Refused c =
-    let x = c.args.identifier in λ strings e. sym (comes-to (goal.at.returns-in-Refused c).After-sought-found strings e _ (found_refused (sought x strings) _ (sym c.in-Refused.is ∙ found-is (goal.at.returns-in-Refused c).After-sought-found strings e)))
+    let x = c.args.identifier in
+    λ strings e. sym (comes-to (goal.at.returns-in-Refused c).After-sought-found strings e _ (found_refused (sought x strings) _ (sym c.in-Refused.is ∙ found-is (goal.at.returns-in-Refused c).After-sought-found strings e)))
 
 is-sought : (c : In-String) → (strings : List Element) → sofar c.args.old.now ≡ made strings → sought c.args.identifier strings ≡ made c.in-String.element
 is-sought c strings e =

@@ -31,7 +31,8 @@ returns-in_default c =
 
 tested-old : (c : In-Done) → (strings : List Element) × (sofar c.args.old.now ≡ made strings) × (length strings ≡ c.in-Done.field-0)
 tested-old c =
-    let old = c.args.old.now in made_of_answer (sofar old) c.in-Done.field-0 (sym c.in-Done.is ∙ c.test_old-tested.ensures)
+    let old = c.args.old.now in
+    made_of_answer (sofar old) c.in-Done.field-0 (sym c.in-Done.is ∙ c.test_old-tested.ensures)
 
 strings : (c : In-Done) → List Element
 strings c =
@@ -44,19 +45,30 @@ right c =
 
 pub returns-in_default-row_of : goal.returns-in_default-row_of
 returns-in_default-row_of c =
-    let old = c.args.old.now in let x = c.args.identifier in let content = c.args.content.now in sym (ap answer_of (judged_unlisted old x content (strings (goal.at.returns-in_default-row_of c).In-Done) (right (goal.at.returns-in_default-row_of c).In-Done) (no_kind_of_row x (sym c.row_of.ensures ∙ c.in_default-row_of.is))))
+    let old = c.args.old.now in
+    let x = c.args.identifier in
+    let content = c.args.content.now in
+    sym (ap answer_of (judged_unlisted old x content (strings (goal.at.returns-in_default-row_of c).In-Done) (right (goal.at.returns-in_default-row_of c).In-Done) (no_kind_of_row x (sym c.row_of.ensures ∙ c.in_default-row_of.is))))
 
 listed : (c : In-Listed) → kind_of c.args.identifier ≡ some c.in-Listed.kind
 listed c =
-    let x = c.args.identifier in let kind = c.in-Listed.kind in (kind_of_row x c.in-Listed.field-0 kind (sym c.row_of.ensures ∙ c.in-Listed.is)).1
+    let x = c.args.identifier in
+    let kind = c.in-Listed.kind in
+    (kind_of_row x c.in-Listed.field-0 kind (sym c.row_of.ensures ∙ c.in-Listed.is)).1
 
 pub right_data-requires : goal.right_data-requires
 right_data-requires c =
-    let x = c.args.identifier in let kind = c.in-Listed.kind in sized_if_listed x kind (listed (goal.at.right_data-requires c).In-Listed)
+    let x = c.args.identifier in
+    let kind = c.in-Listed.kind in
+    sized_if_listed x kind (listed (goal.at.right_data-requires c).In-Listed)
 
 pub returns-then-not-right_data : goal.returns-then-not-right_data
 returns-then-not-right_data c =
-    let old = c.args.old.now in let x = c.args.identifier in let content = c.args.content.now in let kind = c.in-Listed.kind in sym (ap answer_of (judged_wrong old x content (strings (goal.at.returns-then-not-right_data c).In-Done) (right (goal.at.returns-then-not-right_data c).In-Done) kind (listed (goal.at.returns-then-not-right_data c).In-Listed) (sym c.right_data.ensures ∙ c.if-not-right_data.true)))
+    let old = c.args.old.now in
+    let x = c.args.identifier in
+    let content = c.args.content.now in
+    let kind = c.in-Listed.kind in
+    sym (ap answer_of (judged_wrong old x content (strings (goal.at.returns-then-not-right_data c).In-Done) (right (goal.at.returns-then-not-right_data c).In-Done) kind (listed (goal.at.returns-then-not-right_data c).In-Listed) (sym c.right_data.ensures ∙ c.if-not-right_data.true)))
 
 -- the data is right
 good : (c : Else-not-right_data) → right_data c.in-Listed.kind c.args.content.now ≡ true
@@ -65,7 +77,11 @@ good c =
 
 pub returns-in_default-unused : goal.returns-in_default-unused
 returns-in_default-unused c =
-    let old = c.args.old.now in let x = c.args.identifier in let content = c.args.content.now in let kind = c.in-Listed.kind in let is = c.in_default-unused.is in
+    let old = c.args.old.now in
+    let x = c.args.identifier in
+    let content = c.args.content.now in
+    let kind = c.in-Listed.kind in
+    let is = c.in_default-unused.is in
     is ∙ sym (ap answer_of (judged_used old x content (strings (goal.at.returns-in_default-unused c).In-Done) (right (goal.at.returns-in_default-unused c).In-Done) kind (listed (goal.at.returns-in_default-unused c).In-Listed) (good (goal.at.returns-in_default-unused c).Else-not-right_data) _ (refused_of_answer _ _ (sym is ∙ c.closing_of-unused.ensures (strings (goal.at.returns-in_default-unused c).In-Done) (right (goal.at.returns-in_default-unused c).In-Done)))))
 
 -- what stands before the new string is known
@@ -80,7 +96,8 @@ short c strings right =
 
 digits : (c : In-Listed) → length (spelled c.args.identifier) ≤ 4
 digits c =
-    let x = c.args.identifier in (spelling_of x (listed_if_kind x c.in-Listed.kind (listed c))).four
+    let x = c.args.identifier in
+    (spelling_of x (listed_if_kind x c.in-Listed.kind (listed c))).four
 
 pub overflow_add-end : goal.overflow_add-end
 overflow_add-end c =

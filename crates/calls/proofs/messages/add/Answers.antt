@@ -17,19 +17,24 @@ use Rattle.calls.proofs.messages.add.Goals as goal
 
 within : (c : In-Identifier) → LeadsWithin (Identifier c.in-Identifier.identifier c.in-Identifier.from) (length c.args.typed.now)
 within c =
-    let typed = c.args.typed.now in subst (λ (leading : Leading). LeadsWithin leading (length typed)) c.in-Identifier.is c.identifier_in.ensures.leads_within
+    let typed = c.args.typed.now in
+    subst (λ (leading : Leading). LeadsWithin leading (length typed)) c.in-Identifier.is c.identifier_in.ensures.leads_within
 
 rest : (c : In-Identifier) → take (length c.args.typed.now - c.in-Identifier.from) (drop c.in-Identifier.from c.args.typed.now) ≡ drop c.in-Identifier.from c.args.typed.now
 rest c =
-    let typed = c.args.typed.now in take_all (length typed - c.in-Identifier.from) (drop c.in-Identifier.from typed) (rw length-drop (omega arith))
+    let typed = c.args.typed.now in
+    take_all (length typed - c.in-Identifier.from) (drop c.in-Identifier.from typed) (rw length-drop (omega arith))
 
 line : (c : In-Identifier) → add_typed (length c.args.buffer.now) c.args.typed.now ≡ added_by (length c.args.buffer.now) c.args.typed.now (Identifier c.in-Identifier.identifier c.in-Identifier.from)
 line c =
-    let typed = c.args.typed.now in let places = length c.args.buffer.now in added_alike places typed (leading_of typed Data) ∙ ap (added_by places typed) (sym c.identifier_in.ensures.value ∙ c.in-Identifier.is)
+    let typed = c.args.typed.now in
+    let places = length c.args.buffer.now in
+    added_alike places typed (leading_of typed Data) ∙ ap (added_by places typed) (sym c.identifier_in.ensures.value ∙ c.in-Identifier.is)
 
 pub returns-in-Identifier : goal.returns-in-Identifier
 returns-in-Identifier c =
-    let places = length c.args.buffer.now in puts_same _ _ _ _ _ (line (goal.at.returns-in-Identifier c).In-Identifier ∙ ap (λ (message : List ℕ). add_after places c.in-Identifier.identifier message) (sym (rest (goal.at.returns-in-Identifier c).In-Identifier))) c.add_data.ensures
+    let places = length c.args.buffer.now in
+    puts_same _ _ _ _ _ (line (goal.at.returns-in-Identifier c).In-Identifier ∙ ap (λ (message : List ℕ). add_after places c.in-Identifier.identifier message) (sym (rest (goal.at.returns-in-Identifier c).In-Identifier))) c.add_data.ensures
 
 pub returns-in-Wrong : goal.returns-in-Wrong
 returns-in-Wrong c =

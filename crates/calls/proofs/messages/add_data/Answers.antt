@@ -19,7 +19,9 @@ use Rattle.calls.proofs.messages.add_data.Goals as goal
 -- the rule, where its test comes out so
 by-test : (c : After-word_end-end) → (b : Bool) → eqb (0 + size_at c.args.typed.now 0) (length c.args.typed.now) ≡ b → add_after (length c.args.buffer.now) c.args.identifier c.args.typed.now ≡ cond b (fault_line (Missing Message)) (added_line (length c.args.buffer.now) c.args.identifier (word_at c.args.typed.now 0) (drop (0 + size_at c.args.typed.now 0 + 1) c.args.typed.now))
 by-test c b is =
-    let places = length c.args.buffer.now in let typed = c.args.typed.now in ap (λ (t : Bool). cond t (fault_line (Missing Message)) (added_line places c.args.identifier (word_at typed 0) (drop (0 + size_at typed 0 + 1) typed))) is
+    let places = length c.args.buffer.now in
+    let typed = c.args.typed.now in
+    ap (λ (t : Bool). cond t (fault_line (Missing Message)) (added_line places c.args.identifier (word_at typed 0) (drop (0 + size_at typed 0 + 1) typed))) is
 
 pub returns-then-end-typed : goal.returns-then-end-typed
 returns-then-end-typed c =
@@ -31,13 +33,18 @@ size c =
 
 message : (c : After-add_to) → drop (0 + size_at c.args.typed.now 0 + 1) c.args.typed.now ≡ take (length c.args.typed.now - (c.word_end-end.result + 1)) (drop (c.word_end-end.result + 1) c.args.typed.now)
 message c =
-    let typed = c.args.typed.now in let end = c.word_end-end.result in let begins : 0 + size_at typed 0 + 1 ≡ end + 1 = omega (arith, (size c)) in
+    let typed = c.args.typed.now in
+    let end = c.word_end-end.result in
+    let begins : 0 + size_at typed 0 + 1 ≡ end + 1 = omega (arith, (size c)) in
     ap (λ (n : ℕ). drop n typed) begins
     ∙ sym (take_all (length typed - (end + 1)) (drop (end + 1) typed) (rw length-drop (omega arith)))
 
 line : (c : After-add_to) → add_after (length c.args.buffer.now) c.args.identifier c.args.typed.now ≡ added_line (length c.args.buffer.now) c.args.identifier (take c.word_end-end.result c.args.typed.now) (take (length c.args.typed.now - (c.word_end-end.result + 1)) (drop (c.word_end-end.result + 1) c.args.typed.now))
 line c =
-    let places = length c.args.buffer.now in let typed = c.args.typed.now in let by-test : (b : Bool) → eqb (0 + size_at c.args.typed.now 0) (length c.args.typed.now) ≡ b → add_after (length c.args.buffer.now) c.args.identifier c.args.typed.now ≡ cond b (fault_line (Missing Message)) (added_line (length c.args.buffer.now) c.args.identifier (word_at c.args.typed.now 0) (drop (0 + size_at c.args.typed.now 0 + 1) c.args.typed.now)) = λ b is. ap (λ (t : Bool). cond t (fault_line (Missing Message)) (added_line places c.args.identifier (word_at typed 0) (drop (0 + size_at typed 0 + 1) typed))) is in by-test false (ne_eqb _ _ (λ whole. c.if-end-typed.false (c.word_end-end.ensures.value ∙ whole)))
+    let places = length c.args.buffer.now in
+    let typed = c.args.typed.now in
+    let by-test : (b : Bool) → eqb (0 + size_at c.args.typed.now 0) (length c.args.typed.now) ≡ b → add_after (length c.args.buffer.now) c.args.identifier c.args.typed.now ≡ cond b (fault_line (Missing Message)) (added_line (length c.args.buffer.now) c.args.identifier (word_at c.args.typed.now 0) (drop (0 + size_at c.args.typed.now 0 + 1) c.args.typed.now)) = λ b is. ap (λ (t : Bool). cond t (fault_line (Missing Message)) (added_line places c.args.identifier (word_at typed 0) (drop (0 + size_at typed 0 + 1) typed))) is in
+    by-test false (ne_eqb _ _ (λ whole. c.if-end-typed.false (c.word_end-end.ensures.value ∙ whole)))
     ∙ ap₂ (added_line places c.args.identifier) (ap (λ (n : ℕ). take n typed) (size c)) (message c)
 
 pub returns : goal.returns

@@ -17,15 +17,18 @@ use Rattle.calls.proofs.messages.ask.Goals as goal
 
 within : (c : In-Identifier) → LeadsWithin (Identifier c.in-Identifier.identifier c.in-Identifier.from) (length c.args.typed.now)
 within c =
-    let typed = c.args.typed.now in subst (λ (leading : Leading). LeadsWithin leading (length typed)) c.in-Identifier.is c.identifier_in.ensures.leads_within
+    let typed = c.args.typed.now in
+    subst (λ (leading : Leading). LeadsWithin leading (length typed)) c.in-Identifier.is c.identifier_in.ensures.leads_within
 
 rest : (c : In-Identifier) → take (length c.args.typed.now - c.in-Identifier.from) (drop c.in-Identifier.from c.args.typed.now) ≡ drop c.in-Identifier.from c.args.typed.now
 rest c =
-    let typed = c.args.typed.now in take_all (length typed - c.in-Identifier.from) (drop c.in-Identifier.from typed) (rw length-drop (omega arith))
+    let typed = c.args.typed.now in
+    take_all (length typed - c.in-Identifier.from) (drop c.in-Identifier.from typed) (rw length-drop (omega arith))
 
 line : (c : In-Identifier) → ask_typed c.args.typed.now ≡ asked_by c.args.typed.now (Identifier c.in-Identifier.identifier c.in-Identifier.from)
 line c =
-    let typed = c.args.typed.now in asked_alike typed (leading_of typed Message) ∙ ap (asked_by typed) (sym c.identifier_in.ensures.value ∙ c.in-Identifier.is)
+    let typed = c.args.typed.now in
+    asked_alike typed (leading_of typed Message) ∙ ap (asked_by typed) (sym c.identifier_in.ensures.value ∙ c.in-Identifier.is)
 
 pub returns-in-Identifier : goal.returns-in-Identifier
 returns-in-Identifier c =

@@ -18,10 +18,12 @@ returns-in_default c =
 
 pub put_counted-requires : goal.put_counted-requires
 put_counted-requires c =
-    let message = c.args.message.now in record { shows = tt; between_in_bounds = omega (arith, ap length c.ask.ensures, part_short message c.args.identifier) }
+    let message = c.args.message.now in
+    record { shows = tt; between_in_bounds = omega (arith, ap length c.ask.ensures, part_short message c.args.identifier) }
 
 pub returns : goal.returns
 returns c =
-    let message = c.args.message.now in let found = data_found message (asked _ _) _ (sym c.in-Done.is ∙ c.asked-answer.ensures) in
+    let message = c.args.message.now in
+    let found = data_found message (asked _ _) _ (sym c.in-Done.is ∙ c.asked-answer.ensures) in
     let part = ap (counted_line AsBytes (32 ∷ [])) (sym c.ask.ensures) in
     puts_same _ _ _ _ _ (ap (list_line AsBytes) found ∙ part) c.put_counted.ensures

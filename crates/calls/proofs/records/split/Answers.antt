@@ -18,7 +18,8 @@ returns-in_default c =
 
 front : (c : In-Done) → (splits c.args.message.now c.args.places ≡ made (take c.in-Done.count c.split_twelve-split.result.records)) × (c.in-Done.count ≤ 12)
 front c =
-    let n = c.in-Done.count in split_front _ _ _ _ _ c.split_twelve-split.ensures n c.in-Done.is
+    let n = c.in-Done.count in
+    split_front _ _ _ _ _ c.split_twelve-split.ensures n c.in-Done.is
 
 pub put_records-requires : goal.put_records-requires
 put_records-requires c =

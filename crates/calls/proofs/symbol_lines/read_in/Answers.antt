@@ -18,7 +18,8 @@ returns-in_default c =
 
 front : (c : In-Count) → (widths_in c.args.typed.now ≡ widths (take c.in-Count.count c.widths_in.new.widths)) × (c.in-Count.count ≤ length c.widths_in.new.widths)
 front c =
-    let n = c.in-Count.count in at_front _ c.widths_in.result c.widths_in.new.widths n c.in-Count.is c.widths_in.ensures
+    let n = c.in-Count.count in
+    at_front _ c.widths_in.result c.widths_in.new.widths n c.in-Count.is c.widths_in.ensures
 
 pub returns : goal.returns
 returns c =

@@ -21,11 +21,13 @@ bytes c i h =
 
 packs : (c : After-packed_of) → c.packed_six-widths.result ≡ packed c.args.part.now
 packs c =
-    let part = c.args.part.now in c.packed_six-widths.ensures ∙ packed_six part c.requires
+    let part = c.args.part.now in
+    c.packed_six-widths.ensures ∙ packed_six part c.requires
 
 below : (c : After-packed_of) → candidate c.args.part.now < 106
 below c =
-    let part = c.args.part.now in candidate_below (key_of (packed part)) (omega arith)
+    let part = c.args.part.now in
+    candidate_below (key_of (packed part)) (omega arith)
 
 theirs : (c : After-packed_of) → c.candidate_of-candidate.result ≡ candidate c.args.part.now
 theirs c =
@@ -33,15 +35,18 @@ theirs c =
 
 pattern : (c : After-packed_of) → c.packed_of.result ≡ packed (get_or patterns (candidate c.args.part.now) [])
 pattern c =
-    let part = c.args.part.now in c.packed_of.ensures ∙ ap (λ (v : ℕ). get_or packed_patterns v 0) (theirs c) ∙ packed_at (candidate part) (below c)
+    let part = c.args.part.now in
+    c.packed_of.ensures ∙ ap (λ (v : ℕ). get_or packed_patterns v 0) (theirs c) ∙ packed_at (candidate part) (below c)
 
 pub returns-then-widths-packed_of : goal.returns-then-widths-packed_of
 returns-then-widths-packed_of c =
-    let part = c.args.part.now in rw (theirs (goal.at.returns-then-widths-packed_of c).After-packed_of)
+    let part = c.args.part.now in
+    rw (theirs (goal.at.returns-then-widths-packed_of c).After-packed_of)
     (match_found patterns part (candidate part) distinct_test (rw patterns_are (below (goal.at.returns-then-widths-packed_of c).After-packed_of))
     (candidate_same part c.requires (bytes (goal.at.returns-then-widths-packed_of c).After-packed_of) (sym (packs (goal.at.returns-then-widths-packed_of c).After-packed_of) ∙ c.if-widths-packed_of.true ∙ pattern (goal.at.returns-then-widths-packed_of c).After-packed_of)))
 
 pub returns-else-widths-packed_of : goal.returns-else-widths-packed_of
 returns-else-widths-packed_of c =
-    let part = c.args.part.now in match_none patterns part (candidate part) (one_value_of part)
+    let part = c.args.part.now in
+    match_none patterns part (candidate part) (one_value_of part)
     (λ h same. c.if-widths-packed_of.false (packs (goal.at.returns-else-widths-packed_of c).After-packed_of ∙ ap packed (sym same) ∙ sym (pattern (goal.at.returns-else-widths-packed_of c).After-packed_of)))

@@ -48,11 +48,13 @@ module _ (c : After-meaning_in) where
 
 pub returns-in-Byte : goal.returns-in-Byte
 returns-in-Byte c =
-    let at = (goal.at.returns-in-Byte c).After-meaning_in in puts at c.put_byte.ensures (is-step at (byte _) c.in-Byte.is)
+    let at = (goal.at.returns-in-Byte c).After-meaning_in in
+    puts at c.put_byte.ensures (is-step at (byte _) c.in-Byte.is)
 
 pub returns-in-Pair : goal.returns-in-Pair
 returns-in-Pair c =
-    let at = (goal.at.returns-in-Pair c).After-meaning_in in puts at c.put_pair.ensures (is-step at (pair _) c.in-Pair.is)
+    let at = (goal.at.returns-in-Pair c).After-meaning_in in
+    puts at c.put_pair.ensures (is-step at (pair _) c.in-Pair.is)
 
 pub returns-in-Change : goal.returns-in-Change
 returns-in-Change c =
@@ -67,8 +69,10 @@ returns-in-Shift c =
 
 pub returns-in-Separator : goal.returns-in-Separator
 returns-in-Separator c =
-    let at = (goal.at.returns-in-Separator c).After-meaning_in in puts at c.put.ensures (is-step at separator c.in-Separator.is)
+    let at = (goal.at.returns-in-Separator c).After-meaning_in in
+    puts at c.put.ensures (is-step at separator c.in-Separator.is)
 
 pub returns-in-Illegal : goal.returns-in-Illegal
 returns-in-Illegal c =
-    let at = (goal.at.returns-in-Illegal c).After-meaning_in in stuck_at at (is-step at illegal c.in-Illegal.is)
+    let at = (goal.at.returns-in-Illegal c).After-meaning_in in
+    stuck_at at (is-step at illegal c.in-Illegal.is)

@@ -17,11 +17,15 @@ use Rattle.ean13.proofs.Ean13.read.Goals as goal
 pub returns-in_default : goal.returns-in_default
 unfolding reads
 returns-in_default c =
-    let widths = c.args.widths.now in let room = length c.args.number.now in read_refused (scanned widths) _ _ _ c.digits_in-scanned.ensures c.in_default.field-0 room _ c.in_default.is
+    let widths = c.args.widths.now in
+    let room = length c.args.number.now in
+    read_refused (scanned widths) _ _ _ c.digits_in-scanned.ensures c.in_default.field-0 room _ c.in_default.is
 
 made-digits : (c : In-Done) → (scanned c.args.widths.now ≡ made c.digits_in-scanned.new.digits) × (length c.digits_in-scanned.new.digits ≡ 13) × Below 10 c.digits_in-scanned.new.digits
 made-digits c =
-    let widths = c.args.widths.now in let digits = c.digits_in-scanned.new.digits in digits_scanned 13 symbol scanned symbol_of_scan widths _ digits _ c.in-Done.field-0 c.digits_in-scanned.ensures c.in-Done.is refl
+    let widths = c.args.widths.now in
+    let digits = c.digits_in-scanned.new.digits in
+    digits_scanned 13 symbol scanned symbol_of_scan widths _ digits _ c.in-Done.field-0 c.digits_in-scanned.ensures c.in-Done.is refl
 
 pub lay_values-requires : goal.lay_values-requires
 lay_values-requires c =
@@ -30,4 +34,5 @@ lay_values-requires c =
 pub returns : goal.returns
 unfolding reads
 returns c =
-    let room = length c.args.number.now in fills_same _ _ _ _ _ (ap (λ (o : Outcome (List ℕ)). number_read o room) (made-digits (goal.at.returns c).In-Done).0) c.lay_values.ensures
+    let room = length c.args.number.now in
+    fills_same _ _ _ _ _ (ap (λ (o : Outcome (List ℕ)). number_read o room) (made-digits (goal.at.returns c).In-Done).0) c.lay_values.ensures

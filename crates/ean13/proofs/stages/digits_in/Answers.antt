@@ -29,33 +29,45 @@ filled lent ones first h = rw (set_split lent 0 first h) (last_part lent (first 
 pub returns-in_default : goal.returns-in_default
 unfolding scanned
 returns-in_default c =
-    let widths = c.args.widths.now in let f = c.in_default.field-0 in
+    let widths = c.args.widths.now in
+    let f = c.in_default.field-0 in
     let is : c.halves-halves.result ≡ Refused f = c.in_default.is in
     own_passed _ _ _ f _ is (rw (refused_of_answer (halves_in AOrB 6 widths) f (sym is ∙ c.halves-halves.ensures.answer)))
 
 scanned-halves : (c : After-digit_of) → halves_in AOrB 6 c.args.widths.now ≡ made c.halves-halves.new.values
 scanned-halves c =
-    let values = c.halves-halves.new.values in let widths = c.args.widths.now in own_made _ _ values _ c.in-Done.field-0 c.in-Done.is c.halves-halves.ensures (λ vs e. (drawn_of_halves AOrB 6 widths vs e).counted)
+    let values = c.halves-halves.new.values in
+    let widths = c.args.widths.now in
+    own_made _ _ values _ c.in-Done.field-0 c.in-Done.is c.halves-halves.ensures (λ vs e. (drawn_of_halves AOrB 6 widths vs e).counted)
 
 pub returns-in_default-digit_of : goal.returns-in_default-digit_of
 unfolding scanned
 returns-in_default-digit_of c =
-    let values = c.halves-halves.new.values in let none : first_of values ≡ 10 = value_of_nothing by_first_digit _ (sym c.in_default-digit_of.is ∙ c.digit_of.ensures) in
+    let values = c.halves-halves.new.values in
+    let none : first_of values ≡ 10 = value_of_nothing by_first_digit _ (sym c.in_default-digit_of.is ∙ c.digit_of.ensures) in
     own_refused _ _ _ (Pattern 12) (rw (scanned-halves (goal.at.returns-in_default-digit_of c).After-digit_of, none))
 
 scanned-digits : (c : In-Value) → scanned c.args.widths.now ≡ made (c.in-Value.first ∷ map (λ v. v % 10) c.halves-halves.new.values)
 unfolding scanned
 scanned-digits c =
-    let first = c.in-Value.first in let values = c.halves-halves.new.values in let widths = c.args.widths.now in let scanned-halves : halves_in AOrB 6 c.args.widths.now ≡ made c.halves-halves.new.values = own_made _ _ values _ c.in-Done.field-0 c.in-Done.is c.halves-halves.ensures (λ vs e. (drawn_of_halves AOrB 6 widths vs e).counted) in let found = value_of_match by_first_digit _ first (sym c.in-Value.is ∙ c.digit_of.ensures) in
+    let first = c.in-Value.first in
+    let values = c.halves-halves.new.values in
+    let widths = c.args.widths.now in
+    let scanned-halves : halves_in AOrB 6 c.args.widths.now ≡ made c.halves-halves.new.values = own_made _ _ values _ c.in-Done.field-0 c.in-Done.is c.halves-halves.ensures (λ vs e. (drawn_of_halves AOrB 6 widths vs e).counted) in
+    let found = value_of_match by_first_digit _ first (sym c.in-Value.is ∙ c.digit_of.ensures) in
     rw (scanned-halves, found.0, lt-ltb first 10 found.1)
 
 thirteen : (c : In-Value) → length (c.in-Value.first ∷ map (λ v. v % 10) c.halves-halves.new.values) ≡ 13
 thirteen c =
-    let values = c.halves-halves.new.values in let widths = c.args.widths.now in let scanned-halves : halves_in AOrB 6 c.args.widths.now ≡ made c.halves-halves.new.values = own_made _ _ values _ c.in-Done.field-0 c.in-Done.is c.halves-halves.ensures (λ vs e. (drawn_of_halves AOrB 6 widths vs e).counted) in omega (arith, length-map values (λ v. v % 10), (drawn_of_halves AOrB 6 widths values scanned-halves).counted)
+    let values = c.halves-halves.new.values in
+    let widths = c.args.widths.now in
+    let scanned-halves : halves_in AOrB 6 c.args.widths.now ≡ made c.halves-halves.new.values = own_made _ _ values _ c.in-Done.field-0 c.in-Done.is c.halves-halves.ensures (λ vs e. (drawn_of_halves AOrB 6 widths vs e).counted) in
+    omega (arith, length-map values (λ v. v % 10), (drawn_of_halves AOrB 6 widths values scanned-halves).counted)
 
 list-is : (c : After-digits_of) → (let lent = c.args.digits.now in put 1 (length (set lent 0 c.in-Value.first)) (set lent 0 c.in-Value.first) c.digits_of.new.digits) ≡ (c.in-Value.first ∷ map (λ v. v % 10) c.halves-halves.new.values)
 list-is c =
-    let first = c.in-Value.first in filled c.args.digits.now _ first (omega arith) ∙ ap (λ (ones : List ℕ). first ∷ ones) c.digits_of.ensures
+    let first = c.in-Value.first in
+    filled c.args.digits.now _ first (omega arith) ∙ ap (λ (ones : List ℕ). first ∷ ones) c.digits_of.ensures
 
 pub shape_of-digits : goal.shape_of-digits
 shape_of-digits c =
@@ -63,7 +75,9 @@ shape_of-digits c =
 
 pub returns : goal.returns
 returns c =
-    let first = c.in-Value.first in let list = let lent = c.args.digits.now in put 1 (length (set lent 0 first)) (set lent 0 first) c.digits_of.new.digits in own_filled _ _ list 13 (scanned-digits (goal.at.returns c).In-Value ∙ ap made (sym (list-is (goal.at.returns c).After-digits_of))) (ap length (list-is (goal.at.returns c).After-digits_of) ∙ thirteen (goal.at.returns c).In-Value) c.requires
+    let first = c.in-Value.first in
+    let list = let lent = c.args.digits.now in put 1 (length (set lent 0 first)) (set lent 0 first) c.digits_of.new.digits in
+    own_filled _ _ list 13 (scanned-digits (goal.at.returns c).In-Value ∙ ap made (sym (list-is (goal.at.returns c).After-digits_of))) (ap length (list-is (goal.at.returns c).After-digits_of) ∙ thirteen (goal.at.returns c).In-Value) c.requires
 
 pub slice_bounds-digit_of-end : goal.slice_bounds-digit_of-end
 slice_bounds-digit_of-end c =

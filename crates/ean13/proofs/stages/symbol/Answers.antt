@@ -18,29 +18,43 @@ use Rattle.ean13.proofs.stages.symbol.Goals as goal
 
 pub in_sets-left-requires : goal.in_sets-left-requires
 in_sets-left-requires c =
-    let digits = c.args.digits.now in let below = c.requires.below in let half = left_half digits c.requires.digits_len below in let left = half in
+    let digits = c.args.digits.now in
+    let below = c.requires.below in
+    let half = left_half digits c.requires.digits_len below in
+    let left = half in
     record { below = rw c.row_of-row.ensures (Row.letters_below left); digits_len = left.six; below_2 = left.below }
 
 left_is : (c : After-in_sets-left) → c.in_sets-left.result ≡ Row.values (left_half c.args.digits.now c.requires.digits_len c.requires.below)
 left_is c =
-    let digits = c.args.digits.now in c.in_sets-left.ensures ∙ ap (λ (letters : List ℕ). in_sets letters (take 6 (drop 1 digits))) c.row_of-row.ensures
+    let digits = c.args.digits.now in
+    c.in_sets-left.ensures ∙ ap (λ (letters : List ℕ). in_sets letters (take 6 (drop 1 digits))) c.row_of-row.ensures
 
 pub halves-requires : goal.halves-requires
 halves-requires c =
-    let digits = c.args.digits.now in let below = c.requires.below in let half = left_half digits c.requires.digits_len below in let ds = digits in
+    let digits = c.args.digits.now in
+    let below = c.requires.below in
+    let half = left_half digits c.requires.digits_len below in
+    let ds = digits in
     let six = Row.six_values half in
     rw (left_is (goal.at.halves-requires c).After-in_sets-left) record { to_len = simp (length-take, length-drop) (omega arith); below = Row.values_below half; below_2 = below_take 10 (length ds - 7) (drop 7 ds) (below_drop 10 7 ds below) }
 
 pub returns : goal.returns
 unfolding symbol
 returns c =
-    let digits = c.args.digits.now in let ds = digits in
+    let digits = c.args.digits.now in
+    let ds = digits in
     c.halves.ensures ∙ ap₂ (halves_drawn AOrB) (left_is (goal.at.returns c).After-in_sets-left) (take_all (length ds - 7) (drop 7 ds) (rw length-drop (omega arith)))
 
 pub overflow_cast-digits : goal.overflow_cast-digits
 overflow_cast-digits c =
-    let digits = c.args.digits.now in let below = c.requires.below in let half = left_half digits c.requires.digits_len below in omega (arith, half.ten)
+    let digits = c.args.digits.now in
+    let below = c.requires.below in
+    let half = left_half digits c.requires.digits_len below in
+    omega (arith, half.ten)
 
 pub row_of-row-requires : goal.row_of-row-requires
 row_of-row-requires c =
-    let digits = c.args.digits.now in let below = c.requires.below in let half = left_half digits c.requires.digits_len below in half.ten
+    let digits = c.args.digits.now in
+    let below = c.requires.below in
+    let half = left_half digits c.requires.digits_len below in
+    half.ten

@@ -18,22 +18,30 @@ use Rattle.ean8.proofs.Ean8.write.Goals as goal
 pub returns-in_default : goal.returns-in_default
 unfolding writes
 returns-in_default c =
-    let number = c.args.number.now in let room = length c.args.widths.now in written_refused 8 symbol number room _ c.values_of-tested.ensures.answer c.in_default.field-0 _ c.in_default.is
+    let number = c.args.number.now in
+    let room = length c.args.widths.now in
+    written_refused 8 symbol number room _ c.values_of-tested.ensures.answer c.in_default.field-0 _ c.in_default.is
 
 passed : (c : In-Done) → (c.values_of-tested.new.values ≡ map value_of c.args.number.now) × (length c.values_of-tested.new.values ≡ 8) × Below 10 c.values_of-tested.new.values
 passed c =
-    let number = c.args.number.now in let digits = c.values_of-tested.new.values in tested_values 8 number _ digits _ c.in-Done.field-0 c.values_of-tested.ensures c.in-Done.is refl
+    let number = c.args.number.now in
+    let digits = c.values_of-tested.new.values in
+    tested_values 8 number _ digits _ c.in-Done.field-0 c.values_of-tested.ensures c.in-Done.is refl
 
 pub halves-requires : goal.halves-requires
 halves-requires c =
-    let digits = c.values_of-tested.new.values in let eight = (passed (goal.at.halves-requires c).In-Done).1 in
+    let digits = c.values_of-tested.new.values in
+    let eight = (passed (goal.at.halves-requires c).In-Done).1 in
     let below = (passed (goal.at.halves-requires c).In-Done).2 in
     record { to_len = simp (length-take, length-drop) (omega arith); below = below_take 10 4 digits below; below_2 = below_take 10 (length digits - 4) (drop 4 digits) (below_drop 10 4 digits below) }
 
 pub returns : goal.returns
 unfolding symbol writes
 returns c =
-    let digits = c.values_of-tested.new.values in let number = c.args.number.now in let room = length c.args.widths.now in let eight = (passed (goal.at.returns c).In-Done).1 in
+    let digits = c.values_of-tested.new.values in
+    let number = c.args.number.now in
+    let room = length c.args.widths.now in
+    let eight = (passed (goal.at.returns c).In-Done).1 in
     let right = take_all (length digits - 4) (drop 4 digits) (rw length-drop (omega arith)) in
     written_laid 8 symbol number room _ c.values_of-tested.ensures.answer c.in-Done.field-0 _ _ _ _ c.in-Done.is
     (c.halves.ensures ∙ ap (λ (half : List ℕ). halves_drawn A (take 4 digits) half) right ∙ ap symbol (passed (goal.at.returns c).In-Done).0)

@@ -17,16 +17,21 @@ loop-i-init c =
 
 pub pattern-widths-requires : goal.pattern-widths-requires
 pattern-widths-requires c =
-    let i = c.loop-i.i in c.requires.below i (omega arith)
+    let i = c.loop-i.i in
+    c.requires.below i (omega arith)
 
 widths-laid : (c : After-lay) → c.lay.new.lent ≡ get_or (patterns_of c.args.sets) (get_or c.args.values.now c.loop-i.i 0) []
 widths-laid c =
-    let values = c.args.values.now in let i = c.loop-i.i in let four = four_widths c.args.sets (get_or values i 0) (c.requires.below i (omega arith)) in
+    let values = c.args.values.now in
+    let i = c.loop-i.i in
+    let four = four_widths c.args.sets (get_or values i 0) (c.requires.below i (omega arith)) in
     laid_whole _ _ _ _ c.lay.ensures (simp (length-take, length-drop) (omega (arith, four, ap length c.pattern-widths.ensures))) ∙ c.pattern-widths.ensures
 
 pub loop-i-preserved : goal.loop-i-preserved
 loop-i-preserved c =
-    let patterns = patterns_of c.args.sets in let values = c.args.values.now in let i = c.loop-i.i in (
+    let patterns = patterns_of c.args.sets in
+    let values = c.args.values.now in
+    let i = c.loop-i.i in (
       omega arith,
       omega arith,
       rw (widths-laid (goal.at.loop-i-preserved c).After-lay)
@@ -35,7 +40,10 @@ loop-i-preserved c =
 
 pub returns : goal.returns
 returns c =
-    let patterns = patterns_of c.args.sets in let values = c.args.values.now in let i = c.loop-i.i in draw_ends patterns 4 values c.args.to.now i c.loop-i.to (omega arith) (omega arith) c.loop-i.invariant.2
+    let patterns = patterns_of c.args.sets in
+    let values = c.args.values.now in
+    let i = c.loop-i.i in
+    draw_ends patterns 4 values c.args.to.now i c.loop-i.to (omega arith) (omega arith) c.loop-i.invariant.2
 
 pub overflow_cast-values : goal.overflow_cast-values
 overflow_cast-values c =

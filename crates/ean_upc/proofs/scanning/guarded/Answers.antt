@@ -23,7 +23,9 @@ first-passed c =
 
 centre-compared : (c : After-equal-2) → same (take 5 (drop (3 + 4 * c.args.count) c.args.widths.now)) centre ≡ c.equal-2.result
 centre-compared c =
-    let n = c.args.count in let widths = c.args.widths.now in let five : 3 + 4 * n + 5 - (3 + 4 * n) ≡ 5 = omega arith in
+    let n = c.args.count in
+    let widths = c.args.widths.now in
+    let five : 3 + 4 * n + 5 - (3 + 4 * n) ≡ 5 = omega arith in
     sym (c.equal-2.ensures ∙ ap (λ (k : ℕ). same (take k (drop (3 + 4 * n) widths)) centre) five)
 
 pub returns-then-not-equal-2 : goal.returns-then-not-equal-2
@@ -34,7 +36,9 @@ returns-then-not-equal-2 c =
 pub returns : goal.returns
 unfolding guarded
 returns c =
-    let n = c.args.count in let widths = c.args.widths.now in let end = 3 + 4 * n + 5 + 4 * n in
+    let n = c.args.count in
+    let widths = c.args.widths.now in
+    let end = 3 + 4 * n + 5 + 4 * n in
     rw (first-passed (goal.at.returns c).After-equal-2, centre-compared (goal.at.returns c).After-equal-2 ∙ c.if-not-equal-2.false)
     (c.equal-3.ensures ∙ ap (λ (part : List ℕ). same part guard) (take_all (length widths - end) (drop end widths) (rw length-drop (omega arith))))
 

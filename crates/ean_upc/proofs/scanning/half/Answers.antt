@@ -17,18 +17,29 @@ loop-i-init c =
 
 answered : (c : After-value_of) → c.value_of.result ≡ match_in (patterns_of c.args.sets) (take 4 (drop (4 * c.loop-i.i) c.args.widths.now))
 answered c =
-    let i = c.loop-i.i in let bars = c.args.widths.now in let patterns = patterns_of c.args.sets in let size : 4 * i + 4 - 4 * i ≡ 4 = omega arith in
+    let i = c.loop-i.i in
+    let bars = c.args.widths.now in
+    let patterns = patterns_of c.args.sets in
+    let size : 4 * i + 4 - 4 * i ≡ 4 = omega arith in
     c.value_of.ensures ∙ ap (λ (n : ℕ). match_in patterns (take n (drop (4 * i) bars))) size
 
 pub returns-in_default : goal.returns-in_default
 returns-in_default c =
-    let patterns = patterns_of c.args.sets in let count = length c.args.values.now in let bars = c.args.widths.now in let i = c.loop-i.i in own_refused _ _ _ _
+    let patterns = patterns_of c.args.sets in
+    let count = length c.args.values.now in
+    let bars = c.args.widths.now in
+    let i = c.loop-i.i in
+    own_refused _ _ _ _
     (scan_stops patterns 4 count c.args.place bars c.loop-i.values i (omega arith) c.loop-i.invariant.2
     (sym c.in_default.is ∙ answered (goal.at.returns-in_default c).After-value_of))
 
 pub loop-i-preserved : goal.loop-i-preserved
 loop-i-preserved c =
-    let patterns = patterns_of c.args.sets in let count = length c.args.values.now in let bars = c.args.widths.now in let i = c.loop-i.i in let v = c.in-Value.value in (
+    let patterns = patterns_of c.args.sets in
+    let count = length c.args.values.now in
+    let bars = c.args.widths.now in
+    let i = c.loop-i.i in
+    let v = c.in-Value.value in (
       omega arith,
       simp length-set (omega arith),
       scan_goes patterns 4 count c.args.place bars c.loop-i.values i (omega arith) c.loop-i.invariant.2

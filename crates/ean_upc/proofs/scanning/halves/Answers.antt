@@ -45,23 +45,39 @@ guards c =
 -- a half is scanned from where it begins to the end of the list
 onward : (c : Else-not-guarded) → (at : ℕ) → take (length c.args.widths.now - at) (drop at c.args.widths.now) ≡ drop at c.args.widths.now
 onward c at =
-    let widths = c.args.widths.now in take_all (length widths - at) (drop at widths) (rw length-drop (omega arith))
+    let widths = c.args.widths.now in
+    take_all (length widths - at) (drop at widths) (rw length-drop (omega arith))
 
 left-fills : (c : After-half-left) → FillsOwn (characters (patterns_of c.args.sets) 4 c.args.count 0 (drop 3 c.args.widths.now)) (take c.args.count c.args.values.now) c.half-left.result c.half-left.new.values
 left-fills c =
-    let n = c.args.count in let places = take n c.args.values.now in let patterns = patterns_of c.args.sets in let widths = c.args.widths.now in let onward : (at : ℕ) → take (length c.args.widths.now - at) (drop at c.args.widths.now) ≡ drop at c.args.widths.now = λ at. take_all (length widths - at) (drop at widths) (rw length-drop (omega arith)) in let long : length places ≡ n = simp length-take (omega arith) in
+    let n = c.args.count in
+    let places = take n c.args.values.now in
+    let patterns = patterns_of c.args.sets in
+    let widths = c.args.widths.now in
+    let onward : (at : ℕ) → take (length c.args.widths.now - at) (drop at c.args.widths.now) ≡ drop at c.args.widths.now = λ at. take_all (length widths - at) (drop at widths) (rw length-drop (omega arith)) in
+    let long : length places ≡ n = simp length-take (omega arith) in
     own_same _ _ _ _ _ (ap₂ (λ (k : ℕ) (part : List ℕ). characters patterns 4 k 0 part) (sym long) (sym (onward 3))) c.half-left.ensures
 
 pub returns-in_default : goal.returns-in_default
 unfolding halves_in
 returns-in_default c =
-    let patterns = patterns_of c.args.sets in let n = c.args.count in let widths = c.args.widths.now in let leftRule = characters patterns 4 n 0 (drop 3 widths) in let f = c.in_default.field-0 in
+    let patterns = patterns_of c.args.sets in
+    let n = c.args.count in
+    let widths = c.args.widths.now in
+    let left_rule = characters patterns 4 n 0 (drop 3 widths) in
+    let f = c.in_default.field-0 in
     let is : c.half-left.result ≡ Refused f = c.in_default.is in
-    own_passed _ _ _ f _ is (rw (eq-eqb _ _ (counted (goal.at.returns-in_default c).Else-not-guarded), guards (goal.at.returns-in_default c).Else-not-guarded, refused_of_answer leftRule f (sym is ∙ (left-fills (goal.at.returns-in_default c).After-half-left).answer)))
+    own_passed _ _ _ f _ is (rw (eq-eqb _ _ (counted (goal.at.returns-in_default c).Else-not-guarded), guards (goal.at.returns-in_default c).Else-not-guarded, refused_of_answer left_rule f (sym is ∙ (left-fills (goal.at.returns-in_default c).After-half-left).answer)))
 
 left_is : (c : After-half-right) → ((characters (patterns_of c.args.sets) 4 c.args.count 0 (drop 3 c.args.widths.now)) ≡ made c.half-left.new.values) × (length c.half-left.new.values ≡ c.args.count) × Below (length (patterns_of c.args.sets)) c.half-left.new.values
 left_is c =
-    let n = c.args.count in let places = take n c.args.values.now in let patterns = patterns_of c.args.sets in let widths = c.args.widths.now in let left = c.half-left.new.values in let onward : (at : ℕ) → take (length c.args.widths.now - at) (drop at c.args.widths.now) ≡ drop at c.args.widths.now = λ at. take_all (length widths - at) (drop at widths) (rw length-drop (omega arith)) in let left-fills : FillsOwn (characters (patterns_of c.args.sets) 4 c.args.count 0 (drop 3 c.args.widths.now)) (take c.args.count c.args.values.now) c.half-left.result c.half-left.new.values = let long : length places ≡ n = simp length-take (omega arith) in
+    let n = c.args.count in
+    let places = take n c.args.values.now in
+    let patterns = patterns_of c.args.sets in
+    let widths = c.args.widths.now in
+    let left = c.half-left.new.values in
+    let onward : (at : ℕ) → take (length c.args.widths.now - at) (drop at c.args.widths.now) ≡ drop at c.args.widths.now = λ at. take_all (length widths - at) (drop at widths) (rw length-drop (omega arith)) in
+    let left-fills : FillsOwn (characters (patterns_of c.args.sets) 4 c.args.count 0 (drop 3 c.args.widths.now)) (take c.args.count c.args.values.now) c.half-left.result c.half-left.new.values = let long : length places ≡ n = simp length-take (omega arith) in
     own_same _ _ _ _ _ (ap₂ (λ (k : ℕ) (part : List ℕ). characters patterns 4 k 0 part) (sym long) (sym (onward 3))) c.half-left.ensures in let long : length places ≡ n = simp length-take (omega arith) in
     scan_filled patterns 4 n 0 (drop 3 widths) left places _ c.in-Done.field-0 left-fills c.in-Done.is long
 
@@ -71,20 +87,35 @@ right_long c =
 
 right-fills : (c : After-half-right) → FillsOwn (characters set_c 4 c.args.count c.args.count (drop (3 + 4 * c.args.count + 5) c.args.widths.now)) (take (length (c.half-left.new.values ++ drop c.args.count c.args.values.now) - c.args.count) (drop c.args.count (c.half-left.new.values ++ drop c.args.count c.args.values.now))) c.half-right.result c.half-right.new.values
 right-fills c =
-    let n = c.args.count in let widths = c.args.widths.now in let onward : (at : ℕ) → take (length c.args.widths.now - at) (drop at c.args.widths.now) ≡ drop at c.args.widths.now = λ at. take_all (length widths - at) (drop at widths) (rw length-drop (omega arith)) in let rightAt = 3 + 4 * n + 5 in own_same _ _ _ _ _ (ap₂ (λ (k : ℕ) (part : List ℕ). characters set_c 4 k n part) (sym (right_long c)) (sym (onward rightAt))) c.half-right.ensures
+    let n = c.args.count in
+    let widths = c.args.widths.now in
+    let onward : (at : ℕ) → take (length c.args.widths.now - at) (drop at c.args.widths.now) ≡ drop at c.args.widths.now = λ at. take_all (length widths - at) (drop at widths) (rw length-drop (omega arith)) in
+    let right_at = 3 + 4 * n + 5 in
+    own_same _ _ _ _ _ (ap₂ (λ (k : ℕ) (part : List ℕ). characters set_c 4 k n part) (sym (right_long c)) (sym (onward right_at))) c.half-right.ensures
 
 pub returns-in_default-right : goal.returns-in_default-right
 unfolding halves_in
 returns-in_default-right c =
-    let n = c.args.count in let widths = c.args.widths.now in let rightAt = 3 + 4 * n + 5 in let rightRule = characters set_c 4 n n (drop rightAt widths) in let f = c.in_default-right.field-0 in
+    let n = c.args.count in
+    let widths = c.args.widths.now in
+    let right_at = 3 + 4 * n + 5 in
+    let right_rule = characters set_c 4 n n (drop right_at widths) in
+    let f = c.in_default-right.field-0 in
     let is : c.half-right.result ≡ Refused f = c.in_default-right.is in
     own_passed _ _ _ f _ is
-    (rw (eq-eqb _ _ (counted (goal.at.returns-in_default-right c).Else-not-guarded), guards (goal.at.returns-in_default-right c).Else-not-guarded, (left_is (goal.at.returns-in_default-right c).After-half-right).0, refused_of_answer rightRule f (sym is ∙ (right-fills (goal.at.returns-in_default-right c).After-half-right).answer)))
+    (rw (eq-eqb _ _ (counted (goal.at.returns-in_default-right c).Else-not-guarded), guards (goal.at.returns-in_default-right c).Else-not-guarded, (left_is (goal.at.returns-in_default-right c).After-half-right).0, refused_of_answer right_rule f (sym is ∙ (right-fills (goal.at.returns-in_default-right c).After-half-right).answer)))
 
 pub returns : goal.returns
 unfolding halves_in
 returns c =
-    let n = c.args.count in let rightAt = 3 + 4 * n + 5 in let widths = c.args.widths.now in let right = c.half-right.new.values in let left = c.half-left.new.values in let begun = left ++ drop n c.args.values.now in let rightPlaces = take (length begun - n) (drop n begun) in let found = scan_filled set_c 4 n n (drop rightAt widths) right rightPlaces _ c.in-Done-right.field-0 (right-fills (goal.at.returns c).After-half-right) c.in-Done-right.is (right_long (goal.at.returns c).After-half-right) in
+    let n = c.args.count in
+    let right_at = 3 + 4 * n + 5 in
+    let widths = c.args.widths.now in
+    let right = c.half-right.new.values in
+    let left = c.half-left.new.values in
+    let begun = left ++ drop n c.args.values.now in
+    let right_places = take (length begun - n) (drop n begun) in
+    let found = scan_filled set_c 4 n n (drop right_at widths) right right_places _ c.in-Done-right.field-0 (right-fills (goal.at.returns c).After-half-right) c.in-Done-right.is (right_long (goal.at.returns c).After-half-right) in
     let whole = last_part c.args.values.now left right n (left_is (goal.at.returns c).After-half-right).1 in
     own_filled _ _ _ _ (rw (eq-eqb _ _ (counted (goal.at.returns c).Else-not-guarded), guards (goal.at.returns c).Else-not-guarded, (left_is (goal.at.returns c).After-half-right).0, found.0) (ap made (sym whole))) refl
     (omega (arith, ap length whole, length-append left right, (left_is (goal.at.returns c).After-half-right).1, found.1))

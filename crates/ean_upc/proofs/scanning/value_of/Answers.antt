@@ -11,18 +11,30 @@ use Rattle.ean_upc.proofs.scanning.value_of.Goals as goal
 
 only : (c : After-candidate-value) → Candidate (patterns_of c.args.sets) c.args.widths.now c.candidate-value.result
 only c =
-    let widths = c.args.widths.now in let sets = c.args.sets in let value = c.candidate-value.result in candidate_in sets widths value c.candidate-value.ensures
+    let widths = c.args.widths.now in
+    let sets = c.args.sets in
+    let value = c.candidate-value.result in
+    candidate_in sets widths value c.candidate-value.ensures
 
 pub returns-then-count-value : goal.returns-then-count-value
 returns-then-count-value c =
-    let sets = c.args.sets in let widths = c.args.widths.now in let value = c.candidate-value.result in match_none (patterns_of sets) widths value (only (goal.at.returns-then-count-value c).After-candidate-value) (λ h is. omega (arith, c.count.ensures))
+    let sets = c.args.sets in
+    let widths = c.args.widths.now in
+    let value = c.candidate-value.result in
+    match_none (patterns_of sets) widths value (only (goal.at.returns-then-count-value c).After-candidate-value) (λ h is. omega (arith, c.count.ensures))
 
 pub returns-then-equal : goal.returns-then-equal
 returns-then-equal c =
-    let sets = c.args.sets in let widths = c.args.widths.now in let value = c.candidate-value.result in match_found (patterns_of sets) widths value (distinct_sets sets) (omega arith)
+    let sets = c.args.sets in
+    let widths = c.args.widths.now in
+    let value = c.candidate-value.result in
+    match_found (patterns_of sets) widths value (distinct_sets sets) (omega arith)
     (sym c.pattern-pattern.ensures ∙ same_true _ widths (sym c.equal.ensures ∙ c.if-equal.true))
 
 pub returns-else-equal : goal.returns-else-equal
 returns-else-equal c =
-    let sets = c.args.sets in let widths = c.args.widths.now in let value = c.candidate-value.result in match_none (patterns_of sets) widths value (only (goal.at.returns-else-equal c).After-candidate-value)
+    let sets = c.args.sets in
+    let widths = c.args.widths.now in
+    let value = c.candidate-value.result in
+    match_none (patterns_of sets) widths value (only (goal.at.returns-else-equal c).After-candidate-value)
     (λ h is. same_false _ widths (sym c.equal.ensures ∙ c.if-equal.false) (c.pattern-pattern.ensures ∙ is))

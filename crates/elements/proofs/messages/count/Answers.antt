@@ -29,22 +29,36 @@ fuel size count h = omega arith
 
 so_far : (c : At-loop-element) → answer_of (parsed c.args.message.now) ≡ counted c.loop-element.count (strings_from (suc (length c.args.message.now - c.loop-element.count)) c.args.message.now c.loop-element.at (take c.loop-element.count c.loop-element.used))
 so_far c =
-    let at = c.loop-element.at in let message = c.args.message.now in let count = c.loop-element.count in let names = take count c.loop-element.used in c.loop-element.invariant.3 ∙ ap (λ (k : ℕ). counted count (strings_from k message at names)) (fuel (length message) count (omega arith))
+    let at = c.loop-element.at in
+    let message = c.args.message.now in
+    let count = c.loop-element.count in
+    let names = take count c.loop-element.used in
+    c.loop-element.invariant.3 ∙ ap (λ (k : ℕ). counted count (strings_from k message at names)) (fuel (length message) count (omega arith))
 
 pub returns-in-Refused : goal.returns-in-Refused
 returns-in-Refused c =
-    let message = c.args.message.now in let at = c.loop-element.at in let count = c.loop-element.count in let names = take count c.loop-element.used in let f = c.in-Refused.refusal in
+    let message = c.args.message.now in
+    let at = c.loop-element.at in
+    let count = c.loop-element.count in
+    let names = take count c.loop-element.used in
+    let f = c.in-Refused.refusal in
     let here : string_at message at ≡ refused f =
     found_refused (string_at message at) f (sym c.in-Refused.is ∙ c.string_at-found.ensures) in
     sym (so_far (goal.at.returns-in-Refused c).At-loop-element ∙ ap (counted count) (from_refused (length message - count) message at names f here))
 
 here : (c : In-String) → string_at c.args.message.now c.loop-element.at ≡ made c.in-String.element
 here c =
-    let message = c.args.message.now in let at = c.loop-element.at in let string = c.in-String.element in found_string (string_at message at) string (sym c.in-String.is ∙ c.string_at-found.ensures)
+    let message = c.args.message.now in
+    let at = c.loop-element.at in
+    let string = c.in-String.element in
+    found_string (string_at message at) string (sym c.in-String.is ∙ c.string_at-found.ensures)
 
 bounds : (c : In-String) → c.in-String.element.last ≡ false → (c.in-String.element.next ≤ length c.args.message.now) × (c.loop-element.at + 4 ≤ c.in-String.element.next)
 bounds c goes =
-    let message = c.args.message.now in let at = c.loop-element.at in let string = c.in-String.element in next_within message at string c.loop-element.invariant.0 (here c) goes
+    let message = c.args.message.now in
+    let at = c.loop-element.at in
+    let string = c.in-String.element in
+    next_within message at string c.loop-element.invariant.0 (here c) goes
 
 room : (c : In-String) → c.in-String.element.last ≡ false → c.loop-element.count < 12
 room c goes =
@@ -56,7 +70,12 @@ slice_bounds-is_among-end c =
 
 pub returns-then-is_among : goal.returns-then-is_among
 returns-then-is_among c =
-    let message = c.args.message.now in let count = c.loop-element.count in let at = c.loop-element.at in let names = take count c.loop-element.used in let string = c.in-String.element in let k = length message - count in
+    let message = c.args.message.now in
+    let count = c.loop-element.count in
+    let at = c.loop-element.at in
+    let names = take count c.loop-element.used in
+    let string = c.in-String.element in
+    let k = length message - count in
     let repeated = sym c.is_among.ensures ∙ c.if-is_among.true in
     sym (so_far (goal.at.returns-then-is_among c).At-loop-element ∙ ap (counted count) (from_repeated k message at names string (here (goal.at.returns-then-is_among c).In-String) repeated))
 
@@ -66,7 +85,12 @@ fresh c =
 
 pub returns-then-element : goal.returns-then-element
 returns-then-element c =
-    let message = c.args.message.now in let count = c.loop-element.count in let at = c.loop-element.at in let names = take count c.loop-element.used in let string = c.in-String.element in let k = length message - count in
+    let message = c.args.message.now in
+    let count = c.loop-element.count in
+    let at = c.loop-element.at in
+    let names = take count c.loop-element.used in
+    let string = c.in-String.element in
+    let k = length message - count in
     sym (so_far (goal.at.returns-then-element c).At-loop-element ∙ ap (counted count) (from_last k message at names string (here (goal.at.returns-then-element c).In-String) (fresh (goal.at.returns-then-element c).Else-is_among) c.if-element.true))
 
 pub offset_bounds-used-count : goal.offset_bounds-used-count
@@ -83,7 +107,12 @@ loop-element-smaller c =
 
 pub loop-element-preserved : goal.loop-element-preserved
 loop-element-preserved c =
-    let count = c.loop-element.count in let string = c.in-String.element in let message = c.args.message.now in let names = take count c.loop-element.used in let at = c.loop-element.at in let n = count in
+    let count = c.loop-element.count in
+    let string = c.in-String.element in
+    let message = c.args.message.now in
+    let names = take count c.loop-element.used in
+    let at = c.loop-element.at in
+    let n = count in
     let used = c.loop-element.used in
     let x = string.identifier in
     let next = bounds (goal.at.loop-element-preserved c).In-String c.if-element.false in

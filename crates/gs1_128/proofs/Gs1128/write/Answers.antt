@@ -29,15 +29,18 @@ returns-in_default c =
 
 passed : (c : In-Done) → (strings : List Element) × (tested c.args.message.now ≡ made strings) × (length strings ≡ c.in-Done.field-0)
 passed c =
-    let message = c.args.message.now in made_of_answer (tested message) c.in-Done.field-0 (sym c.in-Done.is ∙ c.test-tested.ensures)
+    let message = c.args.message.now in
+    made_of_answer (tested message) c.in-Done.field-0 (sym c.in-Done.is ∙ c.test-tested.ensures)
 
 accepted : (c : In-Done) → Accepted c.args.message.now (passed c).0
 accepted c =
-    let message = c.args.message.now in tested_made message (passed c).0 (passed c).1
+    let message = c.args.message.now in
+    tested_made message (passed c).0 (passed c).1
 
 pub characters_of-count-requires : goal.characters_of-count-requires
 characters_of-count-requires c =
-    let a = accepted (goal.at.characters_of-count-requires c).In-Done in record { message_len_bound = a.most; message_value = a.bytes; characters_len = refl }
+    let a = accepted (goal.at.characters_of-count-requires c).In-Done in
+    record { message_len_bound = a.most; message_value = a.bytes; characters_len = refl }
 
 front : (c : After-characters_of-count) → (take (c.characters_of-count.result - 0) c.characters_of-count.new.characters) ≡ checked (best_spelling c.args.message.now)
 front c =
@@ -46,15 +49,20 @@ front c =
 
 pub slice_bounds-draw-end : goal.slice_bounds-draw-end
 slice_bounds-draw-end c =
-    let message = c.args.message.now in omega (arith, c.characters_of-count.ensures.value, c.characters_of-count.auto.characters, characters_are_few message (accepted (goal.at.slice_bounds-draw-end c).In-Done))
+    let message = c.args.message.now in
+    omega (arith, c.characters_of-count.ensures.value, c.characters_of-count.auto.characters, characters_are_few message (accepted (goal.at.slice_bounds-draw-end c).In-Done))
 
 pub draw-requires : goal.draw-requires
 draw-requires c =
-    let message = c.args.message.now in rw (front (goal.at.draw-requires c).After-characters_of-count) record { characters_len_bound = characters_are_few message (accepted (goal.at.draw-requires c).In-Done); below = characters_have_patterns message (accepted (goal.at.draw-requires c).In-Done) }
+    let message = c.args.message.now in
+    rw (front (goal.at.draw-requires c).After-characters_of-count) record { characters_len_bound = characters_are_few message (accepted (goal.at.draw-requires c).In-Done); below = characters_have_patterns message (accepted (goal.at.draw-requires c).In-Done) }
 
 pub returns : goal.returns
 returns c =
-    let own = take (c.characters_of-count.result - 0) c.characters_of-count.new.characters in let room = length c.args.widths.now in let message = c.args.message.now in fills_same _ (laying (drawn patterns own ++ stop) room) _ _ _
+    let own = take (c.characters_of-count.result - 0) c.characters_of-count.new.characters in
+    let room = length c.args.widths.now in
+    let message = c.args.message.now in
+    fills_same _ (laying (drawn patterns own ++ stop) room) _ _ _
     (write_made message room (passed (goal.at.returns c).In-Done).0 (passed (goal.at.returns c).In-Done).1
     ∙ ap (λ (widths : List ℕ). laying widths room)
     (symbol_of_best message (accepted (goal.at.returns c).In-Done) ∙ ap (λ (characters : List ℕ). drawn patterns characters ++ stop) (sym (front (goal.at.returns c).After-characters_of-count))))

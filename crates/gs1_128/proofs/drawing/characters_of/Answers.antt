@@ -18,11 +18,14 @@ use Rattle.gs1_128.proofs.drawing.characters_of.Goals as goal
 
 spelled : (c : After-spell-count) → Spelled (best_spelling c.args.message.now) c.args.message.now
 spelled c =
-    let message = c.args.message.now in best_is_spelled message c.requires.message_value
+    let message = c.args.message.now in
+    best_is_spelled message c.requires.message_value
 
 is : (c : After-spell-count) → c.spell-count.new.values ≡ ((spelled c).start ∷ 102 ∷ (spelled c).values) ++ (drop c.spell-count.result c.args.characters.now)
 is c =
-    let count = c.spell-count.result in let behind = drop count c.args.characters.now in c.spell-count.ensures.values_after ∙ ap (λ (l : List ℕ). l ++ behind) (spelled c).is
+    let count = c.spell-count.result in
+    let behind = drop count c.args.characters.now in
+    c.spell-count.ensures.values_after ∙ ap (λ (l : List ℕ). l ++ behind) (spelled c).is
 
 counts : (c : After-spell-count) → c.spell-count.result ≡ suc (length (102 ∷ (spelled c).values))
 counts c =
@@ -30,7 +33,8 @@ counts c =
 
 few : (c : After-spell-count) → c.spell-count.result ≤ 50
 few c =
-    let message = c.args.message.now in omega (arith, c.spell-count.ensures.value, best_short message, c.requires.message_len_bound)
+    let message = c.args.message.now in
+    omega (arith, c.spell-count.ensures.value, best_short message, c.requires.message_len_bound)
 
 long : (c : After-spell-count) → length c.spell-count.new.values ≡ 51
 long c =
@@ -38,19 +42,31 @@ long c =
 
 start_is : (c : After-spell-count) → get_or c.spell-count.new.values 0 0 ≡ (spelled c).start
 start_is c =
-    let list = c.spell-count.new.values in let count = c.spell-count.result in let behind = drop count c.args.characters.now in first_is list (spelled c).start (102 ∷ (spelled c).values) behind (is c) count (counts c)
+    let list = c.spell-count.new.values in
+    let count = c.spell-count.result in
+    let behind = drop count c.args.characters.now in
+    first_is list (spelled c).start (102 ∷ (spelled c).values) behind (is c) count (counts c)
 
 rest-is : (c : After-spell-count) → take (c.spell-count.result - 1) (drop 1 c.spell-count.new.values) ≡ 102 ∷ (spelled c).values
 rest-is c =
-    let list = c.spell-count.new.values in let count = c.spell-count.result in let behind = drop count c.args.characters.now in values_are list (spelled c).start (102 ∷ (spelled c).values) behind (is c) count (counts c)
+    let list = c.spell-count.new.values in
+    let count = c.spell-count.result in
+    let behind = drop count c.args.characters.now in
+    values_are list (spelled c).start (102 ∷ (spelled c).values) behind (is c) count (counts c)
 
 length-is : (c : After-spell-count) → length (checked (best_spelling c.args.message.now)) ≡ c.spell-count.result + 1
 length-is c =
-    let list = c.spell-count.new.values in let count = c.spell-count.result in let behind = drop count c.args.characters.now in ap (λ (l : List ℕ). length (checked l)) (spelled c).is ∙ length_checked list (spelled c).start (102 ∷ (spelled c).values) behind (is c) count (counts c)
+    let list = c.spell-count.new.values in
+    let count = c.spell-count.result in
+    let behind = drop count c.args.characters.now in
+    ap (λ (l : List ℕ). length (checked l)) (spelled c).is ∙ length_checked list (spelled c).start (102 ∷ (spelled c).values) behind (is c) count (counts c)
 
 added : (c : After-spell-count) → (check : ℕ) → check ≡ check_of (get_or c.spell-count.new.values 0 0) (take (c.spell-count.result - 1) (drop 1 c.spell-count.new.values)) → take (c.spell-count.result + 1) (set c.spell-count.new.values c.spell-count.result check) ≡ checked (best_spelling c.args.message.now)
 added c check e =
-    let list = c.spell-count.new.values in let count = c.spell-count.result in let behind = drop count c.args.characters.now in check_added list (spelled c).start (102 ∷ (spelled c).values) behind (is c) count (counts c) check e (omega (arith, (few c), (long c)))
+    let list = c.spell-count.new.values in
+    let count = c.spell-count.result in
+    let behind = drop count c.args.characters.now in
+    check_added list (spelled c).start (102 ∷ (spelled c).values) behind (is c) count (counts c) check e (omega (arith, (few c), (long c)))
     ∙ ap checked (sym (spelled c).is)
 
 pub overflow_cast-characters : goal.overflow_cast-characters
@@ -75,7 +91,9 @@ check_of-check-requires c =
 
 pub overflow_cast-characters-2 : goal.overflow_cast-characters-2
 overflow_cast-characters-2 c =
-    let list = c.spell-count.new.values in let count = c.spell-count.result in omega (arith, c.check_of-check.ensures, check_below (get_or list 0 0) (take (count - 1) (drop 1 list)))
+    let list = c.spell-count.new.values in
+    let count = c.spell-count.result in
+    omega (arith, c.check_of-check.ensures, check_below (get_or list 0 0) (take (count - 1) (drop 1 list)))
 
 pub bounds-characters-count : goal.bounds-characters-count
 bounds-characters-count c =

@@ -16,7 +16,9 @@ use Rattle.gs1_128.proofs.drawing.draw.Goals as goal
 
 pub returns-then-widths-count : goal.returns-then-widths-count
 returns-then-widths-count c =
-    let characters = c.args.characters.now in let widths = c.args.widths.now in fills_refused _ Room _
+    let characters = c.args.characters.now in
+    let widths = c.args.widths.now in
+    fills_refused _ Room _
     (laying_refused (drawn patterns characters ++ stop) (length widths) (omega (arith, length_stopped characters c.requires.below)))
 
 pub draw_characters-requires : goal.draw_characters-requires
@@ -26,7 +28,9 @@ draw_characters-requires c =
 
 pub returns : goal.returns
 returns c =
-    let characters = c.args.characters.now in let widths = c.args.widths.now in let right = c.requires.below in
+    let characters = c.args.characters.now in
+    let widths = c.args.widths.now in
+    let right = c.requires.below in
     let end = 6 * length characters in
     let symbol = drawn patterns characters ++ stop in
     let long = length_stopped characters right in

@@ -10,7 +10,8 @@ use Rattle.gs1_128.proofs.drawing.draw_characters.Goals as goal
 
 pub loop-i-init : goal.loop-i-init
 loop-i-init c =
-    let args = c.args in (omega arith, refl, draw_begins patterns 6 args.characters.now args.to.now)
+    let args = c.args in
+    (omega arith, refl, draw_begins patterns 6 args.characters.now args.to.now)
 
 pub put_pattern-requires : goal.put_pattern-requires
 put_pattern-requires c =
@@ -27,7 +28,8 @@ loop-i-preserved c =
 
 pub returns : goal.returns
 returns c =
-    let characters = c.args.characters.now in draw_ends patterns 6 characters c.args.to.now c.loop-i.i c.loop-i.to (omega arith) (omega arith) c.loop-i.invariant.2
+    let characters = c.args.characters.now in
+    draw_ends patterns 6 characters c.args.to.now c.loop-i.i c.loop-i.to (omega arith) (omega arith) c.loop-i.invariant.2
 
 pub overflow_cast-characters : goal.overflow_cast-characters
 overflow_cast-characters c =

@@ -42,29 +42,47 @@ module _ (widths : List ℕ) where
 
 pub returns-in_default : goal.returns-in_default
 returns-in_default c =
-    let widths = c.args.widths.now in let six = take 6 widths in let none = value_of_nothing patterns six (sym c.in_default.is ∙ c.value_of-found.ensures) in
+    let widths = c.args.widths.now in
+    let six = take 6 widths in
+    let none = value_of_nothing patterns six (sym c.in_default.is ∙ c.value_of-found.ensures) in
     sym (ap answered (no-start-there widths (omega (arith, none, patterns_are, value_start six (omega (arith, none, patterns_are))))))
 
 found : (c : In-Value) → (value_in patterns (take 6 c.args.widths.now) ≡ c.in-Value.start) × (c.in-Value.start < length patterns)
 found c =
-    let widths = c.args.widths.now in let six = take 6 widths in let start = c.in-Value.start in value_of_match patterns six start (sym c.in-Value.is ∙ c.value_of-found.ensures)
+    let widths = c.args.widths.now in
+    let six = take 6 widths in
+    let start = c.in-Value.start in
+    value_of_match patterns six start (sym c.in-Value.is ∙ c.value_of-found.ensures)
 
 pub returns-then-start-lt-LEAST_START : goal.returns-then-start-lt-LEAST_START
 returns-then-start-lt-LEAST_START c =
-    let widths = c.args.widths.now in let six = take 6 widths in sym (ap answered (no-start-there widths (no_start six (omega (arith, (found (goal.at.returns-then-start-lt-LEAST_START c).In-Value).0)))))
+    let widths = c.args.widths.now in
+    let six = take 6 widths in
+    sym (ap answered (no-start-there widths (no_start six (omega (arith, (found (goal.at.returns-then-start-lt-LEAST_START c).In-Value).0)))))
 
 is-start : (c : After-equal) → (c.in-Value.start ≡ 103 + front c.args.widths.now) × (front c.args.widths.now < 3)
 is-start c =
-    let widths = c.args.widths.now in let six = take 6 widths in let start = c.in-Value.start in let found : (value_in patterns (take 6 c.args.widths.now) ≡ c.in-Value.start) × (c.in-Value.start < length patterns) = value_of_match patterns six start (sym c.in-Value.is ∙ c.value_of-found.ensures) in omega (arith, c.if-start-lt-LEAST_START.false, found, patterns_are, value_start six (omega (arith, found.0, c.if-start-lt-LEAST_START.false)))
+    let widths = c.args.widths.now in
+    let six = take 6 widths in
+    let start = c.in-Value.start in
+    let found : (value_in patterns (take 6 c.args.widths.now) ≡ c.in-Value.start) × (c.in-Value.start < length patterns) = value_of_match patterns six start (sym c.in-Value.is ∙ c.value_of-found.ensures) in
+    omega (arith, c.if-start-lt-LEAST_START.false, found, patterns_are, value_start six (omega (arith, found.0, c.if-start-lt-LEAST_START.false)))
 
 ends : (c : After-equal) → c.equal.result ≡ same (back c.args.widths.now) stop
 ends c =
-    let widths = c.args.widths.now in let list = widths in c.equal.ensures ∙ ap (λ (part : List ℕ). same part stop) (take_all (length list - (length list - 7)) (back list) (rw length-drop (omega arith)))
+    let widths = c.args.widths.now in
+    let list = widths in
+    c.equal.ensures ∙ ap (λ (part : List ℕ). same part stop) (take_all (length list - (length list - 7)) (back list) (rw length-drop (omega arith)))
 
 pub returns-then-not-equal : goal.returns-then-not-equal
 returns-then-not-equal c =
-    let widths = c.args.widths.now in let list = widths in sym (ap answered (no-stop-there list (is-start (goal.at.returns-then-not-equal c).After-equal).1 (sym (ends (goal.at.returns-then-not-equal c).After-equal) ∙ c.if-not-equal.true)))
+    let widths = c.args.widths.now in
+    let list = widths in
+    sym (ap answered (no-stop-there list (is-start (goal.at.returns-then-not-equal c).After-equal).1 (sym (ends (goal.at.returns-then-not-equal c).After-equal) ∙ c.if-not-equal.true)))
 
 pub returns : goal.returns
 returns c =
-    let widths = c.args.widths.now in let list = widths in let start = c.in-Value.start in sym (ap answered (both-there list start (is-start (goal.at.returns c).After-equal).0 (is-start (goal.at.returns c).After-equal).1 (sym (ends (goal.at.returns c).After-equal) ∙ c.if-not-equal.false)))
+    let widths = c.args.widths.now in
+    let list = widths in
+    let start = c.in-Value.start in
+    sym (ap answered (both-there list start (is-start (goal.at.returns c).After-equal).0 (is-start (goal.at.returns c).After-equal).1 (sym (ends (goal.at.returns c).After-equal) ∙ c.if-not-equal.false)))

@@ -25,11 +25,16 @@ part-is widths i k e =
 
 counts : (c : After-slice_known-1) → values_in c.args.widths.now ≡ characters allowed 6 (length c.args.values.now) 1 (drop 6 c.args.widths.now)
 counts c =
-    let widths = c.args.widths.now in let values = c.args.values.now in let is : count_of widths + 1 ≡ length values = omega (arith, c.requires) in rw is
+    let widths = c.args.widths.now in
+    let values = c.args.values.now in
+    let is : count_of widths + 1 ≡ length values = omega (arith, c.requires) in
+    rw is
 
 pub loop-i-init : goal.loop-i-init
 loop-i-init c =
-    let values = c.args.values.now in let widths = c.args.widths.now in (omega arith, refl, scan_begins allowed 6 (length values) 1 (drop 6 widths) values)
+    let values = c.args.values.now in
+    let widths = c.args.widths.now in
+    (omega arith, refl, scan_begins allowed 6 (length values) 1 (drop 6 widths) values)
 
 pub allowed_value-requires : goal.allowed_value-requires
 allowed_value-requires c =
@@ -37,11 +42,16 @@ allowed_value-requires c =
 
 answers : (c : After-allowed_value) → c.allowed_value.result ≡ match_in allowed (take 6 (drop (6 * c.loop-i.i) (drop 6 c.args.widths.now)))
 answers c =
-    let widths = c.args.widths.now in let i = c.loop-i.i in c.allowed_value.ensures ∙ ap (match_in allowed) (part-is widths i (6 * (i + 1) + 6 - 6 * (i + 1)) (omega arith))
+    let widths = c.args.widths.now in
+    let i = c.loop-i.i in
+    c.allowed_value.ensures ∙ ap (match_in allowed) (part-is widths i (6 * (i + 1) + 6 - 6 * (i + 1)) (omega arith))
 
 pub returns-in_default : goal.returns-in_default
 returns-in_default c =
-    let i = c.loop-i.i in let values = c.args.values.now in let widths = c.args.widths.now in let place : 1 + i ≡ i + 1 = omega arith in
+    let i = c.loop-i.i in
+    let values = c.args.values.now in
+    let widths = c.args.widths.now in
+    let place : 1 + i ≡ i + 1 = omega arith in
     own_refused _ _ _ (Pattern (i + 1))
     (counts (goal.at.returns-in_default c).After-slice_known-1
     ∙ scan_stops allowed 6 (length values) 1 (drop 6 widths) c.loop-i.values i (omega arith) c.loop-i.invariant.2 (sym c.in_default.is ∙ answers (goal.at.returns-in_default c).After-allowed_value)
@@ -49,7 +59,9 @@ returns-in_default c =
 
 pub loop-i-preserved : goal.loop-i-preserved
 loop-i-preserved c =
-    let values = c.args.values.now in let widths = c.args.widths.now in let i = c.loop-i.i in (
+    let values = c.args.values.now in
+    let widths = c.args.widths.now in
+    let i = c.loop-i.i in (
       omega arith,
       simp length-set (omega arith),
       scan_goes allowed 6 (length values) 1 (drop 6 widths) c.loop-i.values i (omega arith) c.loop-i.invariant.2
@@ -58,7 +70,9 @@ loop-i-preserved c =
 
 pub returns : goal.returns
 returns c =
-    let values = c.args.values.now in let widths = c.args.widths.now in let loop = c.loop-i in
+    let values = c.args.values.now in
+    let widths = c.args.widths.now in
+    let loop = c.loop-i in
     let n = length values in
     let over : loop.i ≡ n = omega arith in
     rw over

@@ -39,17 +39,25 @@ overflow_cast-values c =
 
 check-is : (c : After-check_of) → c.check_of.result ≡ check_of c.args.start (take (length c.args.values.now - 1) c.args.values.now)
 check-is c =
-    let values = c.args.values.now in let start = c.args.start in c.check_of.ensures ∙ ap (λ (n : ℕ). check_of start (take n values)) (sub-zero (length values - 1))
+    let values = c.args.values.now in
+    let start = c.args.start in
+    c.check_of.ensures ∙ ap (λ (n : ℕ). check_of start (take n values)) (sub-zero (length values - 1))
 
 pub returns-then-values-last : goal.returns-then-values-last
 returns-then-values-last c =
-    let start = c.args.start in let values = c.args.values.now in sym (ap answer_of (unchecked start values (λ e. c.if-values-last.true (e ∙ sym (check-is (goal.at.returns-then-values-last c).After-check_of)))))
+    let start = c.args.start in
+    let values = c.args.values.now in
+    sym (ap answer_of (unchecked start values (λ e. c.if-values-last.true (e ∙ sym (check-is (goal.at.returns-then-values-last c).After-check_of)))))
 
 pub returns-then-values-ne-FNC1 : goal.returns-then-values-ne-FNC1
 returns-then-values-ne-FNC1 c =
-    let start = c.args.start in let values = c.args.values.now in sym (ap answer_of (unmarked start values (c.if-values-last.false ∙ check-is (goal.at.returns-then-values-ne-FNC1 c).After-check_of) c.if-values-ne-FNC1.true))
+    let start = c.args.start in
+    let values = c.args.values.now in
+    sym (ap answer_of (unmarked start values (c.if-values-last.false ∙ check-is (goal.at.returns-then-values-ne-FNC1 c).After-check_of) c.if-values-ne-FNC1.true))
 
 pub returns : goal.returns
 returns c =
-    let values = c.args.values.now in let start = c.args.start in let count : length values - 1 - 1 ≡ length (take (length values - 2) (drop 1 values)) = simp (length-take, length-drop) (omega arith) in
+    let values = c.args.values.now in
+    let start = c.args.start in
+    let count : length values - 1 - 1 ≡ length (take (length values - 2) (drop 1 values)) = simp (length-take, length-drop) (omega arith) in
     ap Done count ∙ sym (ap answer_of (right start values (c.if-values-last.false ∙ check-is (goal.at.returns c).After-check_of) c.if-values-ne-FNC1.false))

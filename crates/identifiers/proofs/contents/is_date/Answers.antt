@@ -23,7 +23,8 @@ all c =
 
 digit : (c : Else-not-is_digits) → (i : ℕ) → i < 6 → is_digit (get_or c.args.bytes.now i 0) ≡ true
 digit c i h =
-    let bytes = c.args.bytes.now in each_passes is_digit bytes (eqb-true _ _ (all c)) i 0 (omega (arith, c.requires))
+    let bytes = c.args.bytes.now in
+    each_passes is_digit bytes (eqb-true _ _ (all c)) i 0 (omega (arith, c.requires))
 
 -- a pair of digits stands at each place that has a next one
 paired : (c : Else-not-is_digits) → (i : ℕ) → i < 5 → (i + 1 < length c.args.bytes.now) × ((is_digit (get_or c.args.bytes.now i 0) ≡ true) × (is_digit (get_or c.args.bytes.now (i + 1) 0) ≡ true))
@@ -32,7 +33,8 @@ paired c i h =
 
 pub pair_at-month-requires : goal.pair_at-month-requires
 pair_at-month-requires c =
-    let p = paired c 2 (omega arith) in record { at_in_bounds = p.0; at_value = p.1.0; at_value_2 = p.1.1 }
+    let p = paired c 2 (omega arith) in
+    record { at_in_bounds = p.0; at_value = p.1.0; at_value_2 = p.1.1 }
 
 month-is : (c : After-pair_at-month) → c.pair_at-month.result ≡ (pair_at c.args.bytes.now 2)
 month-is c =
@@ -41,24 +43,32 @@ month-is c =
 pub returns-then-month-lt1 : goal.returns-then-month-lt1
 unfolding is_date
 returns-then-month-lt1 c =
-    let bytes = c.args.bytes.now in let month = pair_at bytes 2 in rw (all (goal.at.returns-then-month-lt1 c).Else-not-is_digits, lt-leb 1 month (omega (arith, month-is (goal.at.returns-then-month-lt1 c).After-pair_at-month)))
+    let bytes = c.args.bytes.now in
+    let month = pair_at bytes 2 in
+    rw (all (goal.at.returns-then-month-lt1 c).Else-not-is_digits, lt-leb 1 month (omega (arith, month-is (goal.at.returns-then-month-lt1 c).After-pair_at-month)))
 
 pub returns-then-month-gt12 : goal.returns-then-month-gt12
 unfolding is_date
 returns-then-month-gt12 c =
-    let bytes = c.args.bytes.now in let month = pair_at bytes 2 in let is = month-is (goal.at.returns-then-month-gt12 c).After-pair_at-month in
+    let bytes = c.args.bytes.now in
+    let month = pair_at bytes 2 in
+    let is = month-is (goal.at.returns-then-month-gt12 c).After-pair_at-month in
     rw (all (goal.at.returns-then-month-gt12 c).Else-not-is_digits, le-leb 1 month (omega arith), lt-leb month 12 (omega arith))
 
 pub pair_at-requires : goal.pair_at-requires
 pair_at-requires c =
-    let p = paired (goal.at.pair_at-requires c).Else-not-is_digits 0 (omega arith) in record { at_in_bounds = p.0; at_value = p.1.0; at_value_2 = p.1.1 }
+    let p = paired (goal.at.pair_at-requires c).Else-not-is_digits 0 (omega arith) in
+    record { at_in_bounds = p.0; at_value = p.1.0; at_value_2 = p.1.1 }
 
 pub pair_at-requires-2 : goal.pair_at-requires-2
 pair_at-requires-2 c =
-    let p = paired (goal.at.pair_at-requires-2 c).Else-not-is_digits 4 (omega arith) in record { at_in_bounds = p.0; at_value = p.1.0; at_value_2 = p.1.1 }
+    let p = paired (goal.at.pair_at-requires-2 c).Else-not-is_digits 4 (omega arith) in
+    record { at_in_bounds = p.0; at_value = p.1.0; at_value_2 = p.1.1 }
 
 pub returns : goal.returns
 unfolding is_date
 returns c =
-    let bytes = c.args.bytes.now in let month = pair_at bytes 2 in let is = month-is (goal.at.returns c).After-pair_at-month in
+    let bytes = c.args.bytes.now in
+    let month = pair_at bytes 2 in
+    let is = month-is (goal.at.returns c).After-pair_at-month in
     rw (all (goal.at.returns c).Else-not-is_digits, le-leb 1 month (omega arith), le-leb month 12 (omega arith), c.pair_at-2.ensures.value, c.days_in-last.ensures, c.pair_at.ensures.value, is)

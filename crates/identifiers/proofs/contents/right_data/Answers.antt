@@ -19,30 +19,40 @@ returns-then-kind-bytes c =
 
 pub is_number-requires : goal.is_number-requires
 is_number-requires c =
-    let kind = c.args.kind in let sizes = sized_number kind c.requires c.in-DigitsWithCheck.is in
+    let kind = c.args.kind in
+    let sizes = sized_number kind c.requires c.in-DigitsWithCheck.is in
     record { bytes_nonzero = omega arith; bytes_len_bound = omega arith }
 
 pub is_date-requires : goal.is_date-requires
 is_date-requires c =
-    let kind = c.args.kind in let sizes = sized_date kind c.requires c.in-Date.is in
+    let kind = c.args.kind in
+    let sizes = sized_date kind c.requires c.in-Date.is in
     omega arith
 
 pub returns-in-DigitsWithCheck : goal.returns-in-DigitsWithCheck
 unfolding passes
 returns-in-DigitsWithCheck c =
-    let kind = c.args.kind in let bytes = c.args.bytes.now in c.is_number.ensures ∙ sym (right_by_content kind bytes DigitsWithCheck (omega arith) (omega arith) c.in-DigitsWithCheck.is)
+    let kind = c.args.kind in
+    let bytes = c.args.bytes.now in
+    c.is_number.ensures ∙ sym (right_by_content kind bytes DigitsWithCheck (omega arith) (omega arith) c.in-DigitsWithCheck.is)
 
 pub returns-in-Date : goal.returns-in-Date
 unfolding passes
 returns-in-Date c =
-    let kind = c.args.kind in let bytes = c.args.bytes.now in c.is_date.ensures ∙ sym (right_by_content kind bytes Date (omega arith) (omega arith) c.in-Date.is)
+    let kind = c.args.kind in
+    let bytes = c.args.bytes.now in
+    c.is_date.ensures ∙ sym (right_by_content kind bytes Date (omega arith) (omega arith) c.in-Date.is)
 
 pub returns-in-Digits : goal.returns-in-Digits
 unfolding passes
 returns-in-Digits c =
-    let kind = c.args.kind in let bytes = c.args.bytes.now in c.is_digits.ensures ∙ sym (right_by_content kind bytes Digits (omega arith) (omega arith) c.in-Digits.is)
+    let kind = c.args.kind in
+    let bytes = c.args.bytes.now in
+    c.is_digits.ensures ∙ sym (right_by_content kind bytes Digits (omega arith) (omega arith) c.in-Digits.is)
 
 pub returns-in-Text : goal.returns-in-Text
 unfolding passes
 returns-in-Text c =
-    let kind = c.args.kind in let bytes = c.args.bytes.now in c.is_text.ensures ∙ sym (right_by_content kind bytes Text (omega arith) (omega arith) c.in-Text.is)
+    let kind = c.args.kind in
+    let bytes = c.args.bytes.now in
+    c.is_text.ensures ∙ sym (right_by_content kind bytes Text (omega arith) (omega arith) c.in-Text.is)

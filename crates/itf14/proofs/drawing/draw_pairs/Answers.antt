@@ -26,21 +26,27 @@ below c k h =
 
 within : (c : After-lay) → Below (length pairs) (paired c.args.digits.now)
 within c =
-    let digits = c.args.digits.now in rw length_pairs (paired_below 7 digits c.requires.digits_len c.requires.below)
+    let digits = c.args.digits.now in
+    rw length_pairs (paired_below 7 digits c.requires.digits_len c.requires.below)
 
 seven : (c : After-lay) → length (paired c.args.digits.now) ≡ 7
 seven c =
-    let digits = c.args.digits.now in length_paired 7 digits c.requires.digits_len
+    let digits = c.args.digits.now in
+    length_paired 7 digits c.requires.digits_len
 
 pair-laid : (c : After-lay) → c.lay.new.lent ≡ get_or pairs (get_or (paired c.args.digits.now) c.loop-i.i 0) []
 pair-laid c =
-    let digits = c.args.digits.now in let i = c.loop-i.i in let pair_is = c.pair-pair.ensures ∙ ap (λ (v : ℕ). get_or pairs v []) (sym (paired_at digits i (omega arith))) in
+    let digits = c.args.digits.now in
+    let i = c.loop-i.i in
+    let pair_is = c.pair-pair.ensures ∙ ap (λ (v : ℕ). get_or pairs v []) (sym (paired_at digits i (omega arith))) in
     let ten = ap length pair_is ∙ length_at pairs 10 sized_pairs _ ((within c) i (omega (arith, (seven c)))) in
     laid_whole _ _ _ _ c.lay.ensures (simp (length-take, length-drop) (omega arith)) ∙ pair_is
 
 pub loop-i-preserved : goal.loop-i-preserved
 loop-i-preserved c =
-    let digits = c.args.digits.now in let values = paired digits in let i = c.loop-i.i in (
+    let digits = c.args.digits.now in
+    let values = paired digits in
+    let i = c.loop-i.i in (
       omega arith,
       omega arith,
       rw (pair-laid (goal.at.loop-i-preserved c).After-lay) (draw_goes pairs 10 values c.args.to.now sized_pairs (within (goal.at.loop-i-preserved c).After-lay) i c.loop-i.to (omega (arith, seven (goal.at.loop-i-preserved c).After-lay)) c.loop-i.invariant.2),
@@ -48,17 +54,22 @@ loop-i-preserved c =
 
 pub returns : goal.returns
 returns c =
-    let digits = c.args.digits.now in let i = c.loop-i.i in let long = length_paired 7 digits c.requires.digits_len in
+    let digits = c.args.digits.now in
+    let i = c.loop-i.i in
+    let long = length_paired 7 digits c.requires.digits_len in
     draw_ends pairs 10 (paired digits) c.args.to.now i c.loop-i.to (omega arith) (omega arith) c.loop-i.invariant.2
 
 pub overflow_cast-digits : goal.overflow_cast-digits
 overflow_cast-digits c =
-    let i = c.loop-i.i in omega (arith, below (goal.at.overflow_cast-digits c).At-loop-i (2 * i) (omega arith))
+    let i = c.loop-i.i in
+    omega (arith, below (goal.at.overflow_cast-digits c).At-loop-i (2 * i) (omega arith))
 
 pub overflow_cast-digits-in-loop-i : goal.overflow_cast-digits-in-loop-i
 overflow_cast-digits-in-loop-i c =
-    let i = c.loop-i.i in omega (arith, below (goal.at.overflow_cast-digits-in-loop-i c).At-loop-i (2 * i + 1) (omega arith))
+    let i = c.loop-i.i in
+    omega (arith, below (goal.at.overflow_cast-digits-in-loop-i c).At-loop-i (2 * i + 1) (omega arith))
 
 pub pair-pair-requires : goal.pair-pair-requires
 pair-pair-requires c =
-    let i = c.loop-i.i in record { first_bound = below (goal.at.pair-pair-requires c).At-loop-i (2 * i) (omega arith); second_bound = below (goal.at.pair-pair-requires c).At-loop-i (2 * i + 1) (omega arith) }
+    let i = c.loop-i.i in
+    record { first_bound = below (goal.at.pair-pair-requires c).At-loop-i (2 * i) (omega arith); second_bound = below (goal.at.pair-pair-requires c).At-loop-i (2 * i + 1) (omega arith) }

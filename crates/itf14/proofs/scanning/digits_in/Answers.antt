@@ -14,12 +14,15 @@ use Rattle.itf14.proofs.scanning.digits_in.Goals as goal
 pub returns-in_default : goal.returns-in_default
 unfolding scanned
 returns-in_default c =
-    let widths = c.args.widths.now in let f = c.in_default.field-0 in
+    let widths = c.args.widths.now in
+    let f = c.in_default.field-0 in
     let is : c.pair_values-scanned.result ≡ Refused f = c.in_default.is in
     own_passed _ _ _ f _ is (rw (refused_of_answer (between start stop pairs 10 7 widths) f (sym is ∙ c.pair_values-scanned.ensures.answer)))
 
 pub returns : goal.returns
 unfolding scanned
 returns c =
-    let widths = c.args.widths.now in let values = c.pair_values-scanned.new.values in let scan = own_made (between start stop pairs 10 7 widths) _ values _ c.in-Done.field-0 c.in-Done.is c.pair_values-scanned.ensures (λ vs e. (drawn_of_between start stop pairs 10 7 widths vs e).1) in
+    let widths = c.args.widths.now in
+    let values = c.pair_values-scanned.new.values in
+    let scan = own_made (between start stop pairs 10 7 widths) _ values _ c.in-Done.field-0 c.in-Done.is c.pair_values-scanned.ensures (λ vs e. (drawn_of_between start stop pairs 10 7 widths vs e).1) in
     own_filled _ _ _ 14 (rw scan (ap made (sym c.digits_of.ensures))) (omega arith) (omega arith)

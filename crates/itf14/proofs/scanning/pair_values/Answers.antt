@@ -36,38 +36,53 @@ starts c =
 
 stop-compared : (c : After-equal-2) → same (drop 74 c.args.widths.now) stop ≡ c.equal-2.result
 stop-compared c =
-    let widths = c.args.widths.now in sym (c.equal-2.ensures ∙ ap (λ (part : List ℕ). same part stop) (take_all (length widths - 74) (drop 74 widths) (rw length-drop (omega arith))))
+    let widths = c.args.widths.now in
+    sym (c.equal-2.ensures ∙ ap (λ (part : List ℕ). same part stop) (take_all (length widths - 74) (drop 74 widths) (rw length-drop (omega arith))))
 
 pub returns-then-not-equal-2 : goal.returns-then-not-equal-2
 unfolding between
 returns-then-not-equal-2 c =
-    let counted = c.if-widths-ne-WIDTHS.false in own_refused _ _ _ Guard (rw (eq-eqb _ _ counted, starts (goal.at.returns-then-not-equal-2 c).After-equal-2, stop-compared (goal.at.returns-then-not-equal-2 c).After-equal-2 ∙ c.if-not-equal-2.true))
+    let counted = c.if-widths-ne-WIDTHS.false in
+    own_refused _ _ _ Guard (rw (eq-eqb _ _ counted, starts (goal.at.returns-then-not-equal-2 c).After-equal-2, stop-compared (goal.at.returns-then-not-equal-2 c).After-equal-2 ∙ c.if-not-equal-2.true))
 
 -- the pairs are left to scan
 scanning : (c : Else-not-equal-2) → between start stop pairs 10 7 c.args.widths.now ≡ characters pairs 10 7 0 (drop 4 c.args.widths.now)
 unfolding between
 scanning c =
-    let counted = c.if-widths-ne-WIDTHS.false in let starts : same (take 4 c.args.widths.now) start ≡ true = sym c.equal.ensures ∙ c.if-not-equal.false in let widths = c.args.widths.now in let stop-compared : same (drop 74 c.args.widths.now) stop ≡ c.equal-2.result = sym (c.equal-2.ensures ∙ ap (λ (part : List ℕ). same part stop) (take_all (length widths - 74) (drop 74 widths) (rw length-drop (omega arith)))) in rw (eq-eqb _ _ counted, starts, stop-compared ∙ c.if-not-equal-2.false)
+    let counted = c.if-widths-ne-WIDTHS.false in
+    let starts : same (take 4 c.args.widths.now) start ≡ true = sym c.equal.ensures ∙ c.if-not-equal.false in
+    let widths = c.args.widths.now in
+    let stop-compared : same (drop 74 c.args.widths.now) stop ≡ c.equal-2.result = sym (c.equal-2.ensures ∙ ap (λ (part : List ℕ). same part stop) (take_all (length widths - 74) (drop 74 widths) (rw length-drop (omega arith)))) in
+    rw (eq-eqb _ _ counted, starts, stop-compared ∙ c.if-not-equal-2.false)
 
 pub loop-i-init : goal.loop-i-init
 loop-i-init c =
-    let widths = c.args.widths.now in let bars = drop 4 widths in (omega arith, omega arith, scan_begins pairs 10 7 0 bars c.args.values.now)
+    let widths = c.args.widths.now in
+    let bars = drop 4 widths in
+    (omega arith, omega arith, scan_begins pairs 10 7 0 bars c.args.values.now)
 
 answered : (c : After-pair_value) → c.pair_value.result ≡ match_in pairs (take 10 (drop (10 * c.loop-i.i) (drop 4 c.args.widths.now)))
 answered c =
-    let i = c.loop-i.i in let widths = c.args.widths.now in let size : 4 + 10 * i + 10 - (4 + 10 * i) ≡ 10 = omega arith in
+    let i = c.loop-i.i in
+    let widths = c.args.widths.now in
+    let size : 4 + 10 * i + 10 - (4 + 10 * i) ≡ 10 = omega arith in
     c.pair_value.ensures ∙ ap₂ (λ (n : ℕ) (part : List ℕ). match_in pairs (take n part)) size (sym (drop-drop (10 * i) 4 widths))
 
 pub returns-in_default : goal.returns-in_default
 returns-in_default c =
-    let i = c.loop-i.i in let widths = c.args.widths.now in let bars = drop 4 widths in own_refused _ _ _ (Pattern i)
+    let i = c.loop-i.i in
+    let widths = c.args.widths.now in
+    let bars = drop 4 widths in
+    own_refused _ _ _ (Pattern i)
     (scanning (goal.at.returns-in_default c).Else-not-equal-2
     ∙ scan_stops pairs 10 7 0 bars c.loop-i.values i (omega arith) c.loop-i.invariant.2 (sym c.in_default.is ∙ answered (goal.at.returns-in_default c).After-pair_value)
     ∙ ap (λ (n : ℕ). refused (Pattern n)) (zero-add i))
 
 pub loop-i-preserved : goal.loop-i-preserved
 loop-i-preserved c =
-    let widths = c.args.widths.now in let bars = drop 4 widths in let i = c.loop-i.i in (
+    let widths = c.args.widths.now in
+    let bars = drop 4 widths in
+    let i = c.loop-i.i in (
       omega arith,
       simp length-set (omega arith),
       scan_goes pairs 10 7 0 bars c.loop-i.values i (omega arith) c.loop-i.invariant.2 c.in-Value.value (omega arith) (sym c.in-Value.is ∙ answered (goal.at.loop-i-preserved c).After-pair_value),
@@ -75,7 +90,9 @@ loop-i-preserved c =
 
 pub returns : goal.returns
 returns c =
-    let widths = c.args.widths.now in let bars = drop 4 widths in let loop = c.loop-i in
+    let widths = c.args.widths.now in
+    let bars = drop 4 widths in
+    let loop = c.loop-i in
     let over : loop.i ≡ 7 = omega arith in
     rw over
     (own_filled _ _ loop.values 7 (scanning (goal.at.returns c).Else-not-equal-2 ∙ scan_ends pairs 10 7 0 bars loop.values (omega arith) (rw over at loop.invariant.2)) (omega arith) (omega arith))

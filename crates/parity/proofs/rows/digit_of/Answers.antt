@@ -18,13 +18,19 @@ candidate_in CheckDigit letters digit candidates = candidates.1
 
 pub returns-then-equal : goal.returns-then-equal
 returns-then-equal c =
-    let rows = c.args.rows in let digit = c.candidate-digit.result in let letters = c.letters_of-letters.result in let is : get_or (rows_of rows) digit [] ≡ letters =
+    let rows = c.args.rows in
+    let digit = c.candidate-digit.result in
+    let letters = c.letters_of-letters.result in
+    let is : get_or (rows_of rows) digit [] ≡ letters =
     sym c.row_of-row.ensures ∙ same_true _ letters (sym c.equal.ensures ∙ c.if-equal.true) in
     match_found (rows_of rows) letters digit (distinct_rows rows) (rw (ten_rows rows) c.candidate-digit.ensures.upper_bound) is
     ∙ ap (match_in (rows_of rows)) c.letters_of-letters.ensures
 
 pub returns-else-equal : goal.returns-else-equal
 returns-else-equal c =
-    let rows = c.args.rows in let letters = c.letters_of-letters.result in let digit = c.candidate-digit.result in match_none (rows_of rows) letters digit (candidate_in rows letters digit (c.candidate-digit.ensures.candidate, c.candidate-digit.ensures.candidate_2))
+    let rows = c.args.rows in
+    let letters = c.letters_of-letters.result in
+    let digit = c.candidate-digit.result in
+    match_none (rows_of rows) letters digit (candidate_in rows letters digit (c.candidate-digit.ensures.candidate, c.candidate-digit.ensures.candidate_2))
     (λ h is. same_false _ letters (sym c.equal.ensures ∙ c.if-equal.false) (c.row_of-row.ensures ∙ is))
     ∙ ap (match_in (rows_of rows)) c.letters_of-letters.ensures

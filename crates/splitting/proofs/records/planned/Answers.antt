@@ -26,15 +26,18 @@ returns-in_default c =
 
 right : (c : In-Done) → (strings : List Element) × (tested c.args.message.now ≡ made strings) × (length strings ≡ c.in-Done.count)
 right c =
-    let message = c.args.message.now in made_of_answer (tested message) c.in-Done.count (sym c.in-Done.is ∙ c.test-tested.ensures)
+    let message = c.args.message.now in
+    made_of_answer (tested message) c.in-Done.count (sym c.in-Done.is ∙ c.test-tested.ensures)
 
 pub returns-then-room-count : goal.returns-then-room-count
 returns-then-room-count c =
-    let message = c.args.message.now in let a = right (goal.at.returns-then-room-count c).In-Done in
+    let message = c.args.message.now in
+    let a = right (goal.at.returns-then-room-count c).In-Done in
     sym (ap plan_of (splits_short message _ a.0 a.1 (omega (arith, a.2))))
 
 pub returns : goal.returns
 returns c =
-    let message = c.args.message.now in let a = right (goal.at.returns c).In-Done in
+    let message = c.args.message.now in
+    let a = right (goal.at.returns c).In-Done in
     let count : c.in-Done.count ≡ length (map record_of a.0) = sym a.2 ∙ sym (length-map a.0 record_of) in
     ap (λ (n : ℕ). record { count = n; answer = Done n }) count ∙ sym (ap plan_of (splits_enough message _ a.0 a.1 (omega (arith, a.2))))

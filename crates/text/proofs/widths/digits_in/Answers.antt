@@ -22,13 +22,16 @@ digit c =
 
 pub returns-then-not-is_digit : goal.returns-then-not-is_digit
 returns-then-not-is_digit c =
-    let typed = c.args.typed.now in let byte = get_or typed c.loop-i.i 0 in let other : is_digit byte ≡ false = sym c.is_digit.ensures ∙ c.if-not-is_digit.true in
+    let typed = c.args.typed.now in
+    let byte = get_or typed c.loop-i.i 0 in
+    let other : is_digit byte ≡ false = sym c.is_digit.ensures ∙ c.if-not-is_digit.true in
     let stops = first_stops is_digit typed c.loop-i.i 0 (omega arith) other in
     takes_none (digits_in typed) c.loop-i.widths (digits_none typed (omega arith))
 
 pub loop-i-preserved : goal.loop-i-preserved
 loop-i-preserved c =
-    let typed = c.args.typed.now in let i = c.loop-i.i in (
+    let typed = c.args.typed.now in
+    let i = c.loop-i.i in (
       omega arith,
       simp length-set (omega arith),
       rw add-one (omega (arith, first_goes is_digit typed i 0 (omega arith) (digit (goal.at.loop-i-preserved c).Else-not-is_digit))),
@@ -37,7 +40,8 @@ loop-i-preserved c =
 
 pub returns : goal.returns
 returns c =
-    let typed = c.args.typed.now in let loop = c.loop-i in
+    let typed = c.args.typed.now in
+    let loop = c.loop-i in
     let over : drop loop.i typed ≡ [] = drop_of_length-le typed {i = loop.i} (omega arith) in
     let none : first_not is_digit typed ≡ length typed = omega (arith, ap (first_not is_digit) over, first_of_nil is_digit) in
     let front : take loop.i loop.widths ≡ map value_of typed = loop.invariant.3 ∙ take_all loop.i (map value_of typed) (rw length-map (omega arith)) in
@@ -45,4 +49,6 @@ returns c =
 
 pub overflow_sub-widths : goal.overflow_sub-widths
 overflow_sub-widths c =
-    let typed = c.args.typed.now in let byte = get_or typed c.loop-i.i 0 in (digit_range byte (digit (goal.at.overflow_sub-widths c).Else-not-is_digit)).0
+    let typed = c.args.typed.now in
+    let byte = get_or typed c.loop-i.i 0 in
+    (digit_range byte (digit (goal.at.overflow_sub-widths c).Else-not-is_digit)).0

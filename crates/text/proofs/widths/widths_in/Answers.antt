@@ -10,9 +10,13 @@ use Rattle.text.proofs.widths.widths_in.Goals as goal
 pub returns-then-word_end-typed : goal.returns-then-word_end-typed
 unfolding widths_in
 returns-then-word_end-typed c =
-    let typed = c.args.typed.now in let place = first_not (other_than 32) typed in rw (eq-eqb place (length typed) (omega arith)) c.digits_in.ensures
+    let typed = c.args.typed.now in
+    let place = first_not (other_than 32) typed in
+    rw (eq-eqb place (length typed) (omega arith)) c.digits_in.ensures
 
 pub returns : goal.returns
 unfolding widths_in
 returns c =
-    let typed = c.args.typed.now in let place = first_not (other_than 32) typed in rw (ne_eqb place (length typed) (λ same. c.if-word_end-typed.false (omega arith))) c.numbers_in.ensures
+    let typed = c.args.typed.now in
+    let place = first_not (other_than 32) typed in
+    rw (ne_eqb place (length typed) (λ same. c.if-word_end-typed.false (omega arith))) c.numbers_in.ensures

@@ -26,12 +26,15 @@ use Rattle.upc_e.proofs.UpcE.read.Goals as goal
 pub returns-in_default : goal.returns-in_default
 unfolding reads
 returns-in_default c =
-    let widths = c.args.widths.now in let is = c.in_default.is in
+    let widths = c.args.widths.now in
+    let is = c.in_default.is in
     fills_passed _ c.in_default.field-0 _ _ is (rw (refused_of_answer (scanned widths) _ (sym is ∙ c.short_in-scanned.ensures.answer)))
 
 made-short : (c : After-expanded-digits) → (scanned c.args.widths.now ≡ made c.short_in-scanned.new.short) × (length c.short_in-scanned.new.short ≡ 7) × Below 10 c.short_in-scanned.new.short
 made-short c =
-    let widths = c.args.widths.now in let short = c.short_in-scanned.new.short in digits_scanned 7 symbol scanned symbol_of_scan widths _ short _ c.in-Done.field-0 c.short_in-scanned.ensures c.in-Done.is refl
+    let widths = c.args.widths.now in
+    let short = c.short_in-scanned.new.short in
+    digits_scanned 7 symbol scanned symbol_of_scan widths _ short _ c.in-Done.field-0 c.short_in-scanned.ensures c.in-Done.is refl
 
 stands-for : (c : After-expanded-digits) → c.expanded-digits.result ≡ expanded c.short_in-scanned.new.short
 stands-for c =
@@ -39,11 +42,13 @@ stands-for c =
 
 twelve : (c : After-expanded-digits) → length c.expanded-digits.result ≡ 12
 twelve c =
-    let short = c.short_in-scanned.new.short in ap length (stands-for c) ∙ length_of_expanded short
+    let short = c.short_in-scanned.new.short in
+    ap length (stands-for c) ∙ length_of_expanded short
 
 pub lay_values-laid-requires : goal.lay_values-laid-requires
 lay_values-laid-requires c =
-    let short = c.short_in-scanned.new.short in let below = subst (Below 10) (sym (stands-for (goal.at.lay_values-laid-requires c).After-expanded-digits)) (expanded_below short (made-short (goal.at.lay_values-laid-requires c).After-expanded-digits).2) in
+    let short = c.short_in-scanned.new.short in
+    let below = subst (Below 10) (sym (stands-for (goal.at.lay_values-laid-requires c).After-expanded-digits)) (expanded_below short (made-short (goal.at.lay_values-laid-requires c).After-expanded-digits).2) in
     record { values_nonzero = omega (arith, twelve (goal.at.lay_values-laid-requires c).After-expanded-digits); values_len_bound = omega (arith, twelve (goal.at.lay_values-laid-requires c).After-expanded-digits); below = below }
 
 -- the bytes of the digits fit in the twelve places that they are laid in, so all that refuses is the check digit
@@ -69,30 +74,38 @@ module _ (short : List ℕ) where
 
 same-rule : (c : After-lay_values-laid) → number_read (made (expanded c.short_in-scanned.new.short)) 12 ≡ number_read (made c.expanded-digits.result) 12
 same-rule c =
-    let stands-for : c.expanded-digits.result ≡ expanded c.short_in-scanned.new.short = c.expanded-digits.ensures in ap (λ (ds : List ℕ). number_read (made ds) 12) (sym stands-for)
+    let stands-for : c.expanded-digits.result ≡ expanded c.short_in-scanned.new.short = c.expanded-digits.ensures in
+    ap (λ (ds : List ℕ). number_read (made ds) 12) (sym stands-for)
 
 pub returns-in_default-laid : goal.returns-in_default-laid
 unfolding reads
 returns-in_default-laid c =
-    let short = c.short_in-scanned.new.short in let f = c.in_default-laid.field-0 in
+    let short = c.short_in-scanned.new.short in
+    let f = c.in_default-laid.field-0 in
     let is = c.in_default-laid.is in
     let refusal = same-rule (goal.at.returns-in_default-laid c).After-lay_values-laid ∙ refused_of_answer _ f (sym is ∙ c.lay_values-laid.ensures.answer) in
     fills_passed _ f _ _ is (rw (made-short (goal.at.returns-in_default-laid c).After-expanded-digits).0 (wrong short f _ refusal))
 
 passed : (c : In-Done-laid) → (is_right (expanded c.short_in-scanned.new.short) ≡ true) × (map byte_of (expanded c.short_in-scanned.new.short) ≡ c.lay_values-laid.new.lent)
 passed c =
-    let short = c.short_in-scanned.new.short in let bytes = c.lay_values-laid.new.lent in let stands-for : c.expanded-digits.result ≡ expanded c.short_in-scanned.new.short = c.expanded-digits.ensures in let same-rule : number_read (made (expanded c.short_in-scanned.new.short)) 12 ≡ number_read (made c.expanded-digits.result) 12 = ap (λ (ds : List ℕ). number_read (made ds) 12) (sym stands-for) in let s = short in
+    let short = c.short_in-scanned.new.short in
+    let bytes = c.lay_values-laid.new.lent in
+    let stands-for : c.expanded-digits.result ≡ expanded c.short_in-scanned.new.short = c.expanded-digits.ensures in
+    let same-rule : number_read (made (expanded c.short_in-scanned.new.short)) 12 ≡ number_read (made c.expanded-digits.result) 12 = ap (λ (ds : List ℕ). number_read (made ds) 12) (sym stands-for) in
+    let s = short in
     let long : (xs : List ℕ) → number_read (made (expanded s)) 12 ≡ made xs → length xs ≡ 12 = λ xs e. ap length (sym (right s xs e).1) ∙ length-map (expanded s) byte_of ∙ length_of_expanded s in
     right s bytes (own_made _ _ _ _ _ c.in-Done-laid.is (own_of_fills _ _ _ _ _ same-rule c.lay_values-laid.ensures) long)
 
 pub returns-then-not-is_own : goal.returns-then-not-is_own
 unfolding reads
 returns-then-not-is_own c =
-    let short = c.short_in-scanned.new.short in let false-symbol : is_own short ≡ false = sym c.is_own.ensures ∙ c.if-not-is_own.true in
+    let short = c.short_in-scanned.new.short in
+    let false-symbol : is_own short ≡ false = sym c.is_own.ensures ∙ c.if-not-is_own.true in
     fills_refused _ _ _ (rw ((made-short (goal.at.returns-then-not-is_own c).After-expanded-digits).0, (passed (goal.at.returns-then-not-is_own c).In-Done-laid).0, false-symbol) refl)
 
 pub returns : goal.returns
 unfolding reads
 returns c =
-    let short = c.short_in-scanned.new.short in let own : is_own short ≡ true = sym c.is_own.ensures ∙ c.if-not-is_own.false in
+    let short = c.short_in-scanned.new.short in
+    let own : is_own short ≡ true = sym c.is_own.ensures ∙ c.if-not-is_own.false in
     fills_same _ _ _ _ _ (rw ((made-short (goal.at.returns c).After-expanded-digits).0, (passed (goal.at.returns c).In-Done-laid).0, own, (passed (goal.at.returns c).In-Done-laid).1) refl) c.lay.ensures

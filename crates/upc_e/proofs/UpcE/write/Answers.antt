@@ -21,27 +21,33 @@ use Rattle.upc_e.proofs.UpcE.write.Goals as goal
 pub returns-in_default : goal.returns-in_default
 unfolding writes
 returns-in_default c =
-    let number = c.args.number.now in let is = c.in_default.is in
+    let number = c.args.number.now in
+    let is = c.in_default.is in
     fills_passed _ c.in_default.field-0 _ _ is (rw (refused_of_answer (right_number 12 number) _ (sym is ∙ c.values_of-tested.ensures.answer)))
 
 passed : (c : After-condense-condensed) → (c.values_of-tested.new.values ≡ map value_of c.args.number.now) × (length c.values_of-tested.new.values ≡ 12) × Below 10 c.values_of-tested.new.values
 passed c =
-    let number = c.args.number.now in let digits = c.values_of-tested.new.values in tested_values 12 number _ digits _ c.in-Done.field-0 c.values_of-tested.ensures c.in-Done.is refl
+    let number = c.args.number.now in
+    let digits = c.values_of-tested.new.values in
+    tested_values 12 number _ digits _ c.in-Done.field-0 c.values_of-tested.ensures c.in-Done.is refl
 
 right : (c : After-condense-condensed) → right_number 12 c.args.number.now ≡ made c.values_of-tested.new.values
 right c =
-    let number = c.args.number.now in let known = right_done 12 number c.in-Done.field-0 (sym c.in-Done.is ∙ c.values_of-tested.ensures.answer) in
+    let number = c.args.number.now in
+    let known = right_done 12 number c.in-Done.field-0 (sym c.in-Done.is ∙ c.values_of-tested.ensures.answer) in
     right_of_parts 12 number _ known ∙ ap made (sym (passed c).0)
 
 pub returns-in_default-condensed : goal.returns-in_default-condensed
 unfolding writes
 returns-in_default-condensed c =
-    let digits = c.values_of-tested.new.values in let is = c.in_default-condensed.is in
+    let digits = c.values_of-tested.new.values in
+    let is = c.in_default-condensed.is in
     fills_passed _ c.in_default-condensed.field-0 _ _ is (rw (right (goal.at.returns-in_default-condensed c).After-condense-condensed, refused_of_answer (condensed digits) _ (sym is ∙ c.condense-condensed.ensures.answer)))
 
 made-short : (c : In-Done-condensed) → condensed c.values_of-tested.new.values ≡ made c.condense-condensed.new.short
 made-short c =
-    let short = c.condense-condensed.new.short in own_made _ _ short _ _ c.in-Done-condensed.is c.condense-condensed.ensures (λ xs e. (condensed_made _ xs e).1)
+    let short = c.condense-condensed.new.short in
+    own_made _ _ short _ _ c.in-Done-condensed.is c.condense-condensed.ensures (λ xs e. (condensed_made _ xs e).1)
 
 pub symbol-symbol-requires : goal.symbol-symbol-requires
 symbol-symbol-requires c =
@@ -50,4 +56,5 @@ symbol-symbol-requires c =
 pub returns : goal.returns
 unfolding writes
 returns c =
-    let room = length c.args.widths.now in fills_same _ _ _ _ _ (rw (right (goal.at.returns c).After-condense-condensed, made-short (goal.at.returns c).In-Done-condensed) (ap (λ (bars : List ℕ). laying bars room) (sym c.symbol-symbol.ensures))) c.lay.ensures
+    let room = length c.args.widths.now in
+    fills_same _ _ _ _ _ (rw (right (goal.at.returns c).After-condense-condensed, made-short (goal.at.returns c).In-Done-condensed) (ap (λ (bars : List ℕ). laying bars room) (sym c.symbol-symbol.ensures))) c.lay.ensures

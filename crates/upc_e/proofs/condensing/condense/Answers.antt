@@ -52,11 +52,15 @@ by-rule c =
 
 compared : (c : After-equal) → c.equal.result ≡ same (expanded (short_of c.args.digits.now c.loop-rule.rule)) c.args.digits.now
 compared c =
-    let digits = c.args.digits.now in c.equal.ensures ∙ ap (λ (whole : List ℕ). same whole digits) (c.expanded-whole.ensures ∙ ap expanded (by-rule c))
+    let digits = c.args.digits.now in
+    c.equal.ensures ∙ ap (λ (whole : List ℕ). same whole digits) (c.expanded-whole.ensures ∙ ap expanded (by-rule c))
 
 pub returns-then-equal : goal.returns-then-equal
 returns-then-equal c =
-    let digits = c.args.digits.now in let rule = c.loop-rule.rule in let tried = c.short_by-tried.result in let loop = c.loop-rule in
+    let digits = c.args.digits.now in
+    let rule = c.loop-rule.rule in
+    let tried = c.short_by-tried.result in
+    let loop = c.loop-rule in
     let made-short = loop.invariant.2 ∙ fits digits rule (omega arith) (same_true _ _ (sym (compared (goal.at.returns-then-equal c).After-equal) ∙ c.if-equal.true)) ∙ ap made (sym (by-rule (goal.at.returns-then-equal c).After-equal)) in
     let long = (condensed_made digits tried made-short).1 in
     let room = laying_made tried (length loop.short) (omega (arith, ap length loop.invariant.1, c.requires.short_len)) in
@@ -65,7 +69,9 @@ returns-then-equal c =
 
 pub loop-rule-preserved : goal.loop-rule-preserved
 loop-rule-preserved c =
-    let digits = c.args.digits.now in let rule = c.loop-rule.rule in let e = other digits rule (omega arith) (same_false _ _ (sym (compared (goal.at.loop-rule-preserved c).After-equal) ∙ c.if-equal.false)) in
+    let digits = c.args.digits.now in
+    let rule = c.loop-rule.rule in
+    let e = other digits rule (omega arith) (same_false _ _ (sym (compared (goal.at.loop-rule-preserved c).After-equal) ∙ c.if-equal.false)) in
     (omega arith, c.loop-rule.invariant.1, rw add-one (c.loop-rule.invariant.2 ∙ e))
 
 pub returns : goal.returns

@@ -27,7 +27,8 @@ filled lent ones check seven six =
 pub returns-in_default : goal.returns-in_default
 unfolding scanned
 returns-in_default c =
-    let widths = c.args.widths.now in let f = c.in_default.field-0 in
+    let widths = c.args.widths.now in
+    let f = c.in_default.field-0 in
     let is : c.values_in-characters.result ≡ Refused f = c.in_default.is in
     own_passed _ _ _ f _ is (rw (refused_of_answer (values_in widths) f (sym is ∙ c.values_in-characters.ensures.answer)))
 
@@ -40,13 +41,18 @@ scanned-values c =
 pub returns-in_default-digit_of : goal.returns-in_default-digit_of
 unfolding scanned
 returns-in_default-digit_of c =
-    let values = c.values_in-characters.new.values in let none : check_from values ≡ 10 = value_of_nothing by_check_digit _ (sym c.in_default-digit_of.is ∙ c.digit_of.ensures) in
+    let values = c.values_in-characters.new.values in
+    let none : check_from values ≡ 10 = value_of_nothing by_check_digit _ (sym c.in_default-digit_of.is ∙ c.digit_of.ensures) in
     own_refused _ _ _ (Pattern 12) (rw (scanned-values (goal.at.returns-in_default-digit_of c).After-digit_of, none))
 
 pub returns : goal.returns
 unfolding scanned
 returns c =
-    let check = c.in-Value.check in let widths = c.args.widths.now in let values = c.values_in-characters.new.values in let ones = map (λ v. v % 10) values in let lent = c.args.short.now in
+    let check = c.in-Value.check in
+    let widths = c.args.widths.now in
+    let values = c.values_in-characters.new.values in
+    let ones = map (λ v. v % 10) values in
+    let lent = c.args.short.now in
     let of-values : values_in widths ≡ made values = scanned-values (goal.at.returns c).After-digit_of in
     let six : length ones ≡ 6 = length-map values (λ v. v % 10) ∙ (framed_of_values widths values of-values).1 in
     let found = value_of_match by_check_digit _ check (sym c.in-Value.is ∙ c.digit_of.ensures) in

@@ -23,20 +23,26 @@ use Rattle.upc_e.proofs.stages.symbol.Goals as goal
 
 pub in_sets-values-requires : goal.in_sets-values-requires
 in_sets-values-requires c =
-    let short = c.args.short.now in let digits = printed short c.requires.short_len c.requires.below in
+    let short = c.args.short.now in
+    let digits = printed short c.requires.short_len c.requires.below in
     record { below = rw c.row_of-row.ensures (Row.letters_below digits); digits_len = digits.six; below_2 = digits.below }
 
 values_are : (c : After-in_sets-values) → c.in_sets-values.result ≡ (Row.values (printed c.args.short.now c.requires.short_len c.requires.below))
 values_are c =
-    let short = c.args.short.now in c.in_sets-values.ensures ∙ ap (λ (letters : List ℕ). in_sets letters (take 6 short)) c.row_of-row.ensures
+    let short = c.args.short.now in
+    c.in_sets-values.ensures ∙ ap (λ (letters : List ℕ). in_sets letters (take 6 short)) c.row_of-row.ensures
 
 six : (c : After-in_sets-values) → length (Row.values (printed c.args.short.now c.requires.short_len c.requires.below)) ≡ 6
 six c =
-    let short = c.args.short.now in let digits = printed short c.requires.short_len c.requires.below in Row.six_values digits
+    let short = c.args.short.now in
+    let digits = printed short c.requires.short_len c.requires.below in
+    Row.six_values digits
 
 values_below : (c : After-in_sets-values) → Below 20 (Row.values (printed c.args.short.now c.requires.short_len c.requires.below))
 values_below c =
-    let short = c.args.short.now in let digits = printed short c.requires.short_len c.requires.below in Row.values_below digits
+    let short = c.args.short.now in
+    let digits = printed short c.requires.short_len c.requires.below in
+    Row.values_below digits
 
 pub guarded_half-requires : goal.guarded_half-requires
 guarded_half-requires c =
@@ -44,16 +50,27 @@ guarded_half-requires c =
 
 begun-is : (c : After-guarded_half) → c.guarded_half.new.to ≡ (guard ++ drawn (patterns_of AOrB) (Row.values (printed c.args.short.now c.requires.short_len c.requires.below)))
 begun-is c =
-    let short = c.args.short.now in let values_are : c.in_sets-values.result ≡ (Row.values (printed c.args.short.now c.requires.short_len c.requires.below)) = c.in_sets-values.ensures ∙ ap (λ (letters : List ℕ). in_sets letters (take 6 short)) c.row_of-row.ensures in c.guarded_half.ensures ∙ ap (λ (vs : List ℕ). guard ++ drawn (patterns_of AOrB) vs) values_are
+    let short = c.args.short.now in
+    let values_are : c.in_sets-values.result ≡ (Row.values (printed c.args.short.now c.requires.short_len c.requires.below)) = c.in_sets-values.ensures ∙ ap (λ (letters : List ℕ). in_sets letters (take 6 short)) c.row_of-row.ensures in
+    c.guarded_half.ensures ∙ ap (λ (vs : List ℕ). guard ++ drawn (patterns_of AOrB) vs) values_are
 
 length-begun : (c : After-guarded_half) → length (guard ++ drawn (patterns_of AOrB) (Row.values (printed c.args.short.now c.requires.short_len c.requires.below))) ≡ 27
 length-begun c =
-    let short = c.args.short.now in let digits = printed short c.requires.short_len c.requires.below in let values = Row.values digits in let values_below : Below 20 (Row.values (printed c.args.short.now c.requires.short_len c.requires.below)) = Row.values_below digits in let six : length (Row.values (printed c.args.short.now c.requires.short_len c.requires.below)) ≡ 6 = Row.six_values digits in length-append guard (drawn (patterns_of AOrB) values) ∙ omega (arith, length_of_half AOrB values values_below, six)
+    let short = c.args.short.now in
+    let digits = printed short c.requires.short_len c.requires.below in
+    let values = Row.values digits in
+    let values_below : Below 20 (Row.values (printed c.args.short.now c.requires.short_len c.requires.below)) = Row.values_below digits in
+    let six : length (Row.values (printed c.args.short.now c.requires.short_len c.requires.below)) ≡ 6 = Row.six_values digits in
+    length-append guard (drawn (patterns_of AOrB) values) ∙ omega (arith, length_of_half AOrB values values_below, six)
 
 pub returns : goal.returns
 unfolding symbol
 returns c =
-    let short = c.args.short.now in let digits = printed short c.requires.short_len c.requires.below in let values = Row.values digits in let begun = guard ++ drawn (patterns_of AOrB) values in let blank : List ℕ = replicate 33 0 in
+    let short = c.args.short.now in
+    let digits = printed short c.requires.short_len c.requires.below in
+    let values = Row.values digits in
+    let begun = guard ++ drawn (patterns_of AOrB) values in
+    let blank : List ℕ = replicate 33 0 in
     let whole : length (begun ++ drop 27 blank) ≡ 33 = simp length-append (omega (arith, length-begun (goal.at.returns c).After-guarded_half)) in
     let room : length (take 6 (drop 27 (begun ++ drop 27 blank))) ≡ 6 = simp (length-take, length-drop) (omega arith) in
     ap₂ (λ (front end : List ℕ). put 27 33 (front ++ drop 27 blank) end) (begun-is (goal.at.returns c).After-guarded_half) (laid_whole end_guard _ _ _ c.lay.ensures (rw (begun-is (goal.at.returns c).After-guarded_half) room))
