@@ -77,8 +77,9 @@ rule c =
 
 pub compose-requires : goal.compose-requires
 compose-requires c =
-    let f = fits (goal.at.compose-requires c).In-Done in
-    let long = (is-judged (goal.at.compose-requires c).In-Done).2 in
+    let there = (goal.at.compose-requires c).In-Done in
+    let f = fits there in
+    let long = (is-judged there).2 in
     record { count_in_bounds = omega arith; closing_bound = omega (arith, f.short); identifier_bound = f.small; content_bound = omega (arith, f.most, old-long (goal.at.compose-requires c).Else-buffer-count) }
 
 pub returns : goal.returns

@@ -23,7 +23,8 @@ front c =
 
 pub put_counted-requires : goal.put_counted-requires
 put_counted-requires c =
-    record { shows = (front (goal.at.put_counted-requires c).In-Done).1; between_in_bounds = rw length-take (omega (arith, (front (goal.at.put_counted-requires c).In-Done).0)) }
+    let there = (goal.at.put_counted-requires c).In-Done in
+    record { shows = (front there).1; between_in_bounds = rw length-take (omega (arith, (front there).0)) }
 
 pub returns : goal.returns
 returns c =

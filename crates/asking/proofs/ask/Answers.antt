@@ -43,5 +43,4 @@ pub returns : goal.returns
 returns c =
     let message = c.args.message.now in
     let string = c.in-String.element in
-    let bytes = message in
-    ap (λ (n : ℕ). take n (drop string.begin bytes)) (add-sub_cancel_left string.begin string.length) ∙ sym (ap (part_of bytes) (is-asked (goal.at.returns c).In-String))
+    ap (λ (n : ℕ). take n (drop string.begin message)) (add-sub_cancel_left string.begin string.length) ∙ sym (ap (part_of message) (is-asked (goal.at.returns c).In-String))

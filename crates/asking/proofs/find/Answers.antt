@@ -41,9 +41,10 @@ comes-to c o is =
 
 pub returns-in_default-found : goal.returns-in_default-found
 returns-in_default-found c =
+    let there = (goal.at.returns-in_default-found c).After-sought-found in
     let x = c.args.identifier in
     let is = c.in_default-found.is in
-    is ∙ sym (comes-to (goal.at.returns-in_default-found c).After-sought-found _ (found_refused (sought x (right (goal.at.returns-in_default-found c).After-sought-found).0) _ (sym is ∙ found-is (goal.at.returns-in_default-found c).After-sought-found)))
+    is ∙ sym (comes-to there _ (found_refused (sought x (right there).0) _ (sym is ∙ found-is there)))
 
 is-sought : (c : After-sought-found) (element : Element) → c.sought-found.result ≡ found_of (made element) → sought c.args.identifier (right c).0 ≡ made element
 is-sought c element is =
@@ -51,8 +52,10 @@ is-sought c element is =
 
 pub returns-then-element-identifier : goal.returns-then-element-identifier
 returns-then-element-identifier c =
-    sym (comes-to (goal.at.returns-then-element-identifier c).After-sought-found _ (is-sought (goal.at.returns-then-element-identifier c).After-sought-found _ c.in-String.is) ∙ rw (eq-eqb _ _ c.if-element-identifier.true))
+    let there = (goal.at.returns-then-element-identifier c).After-sought-found in
+    sym (comes-to there _ (is-sought there _ c.in-String.is) ∙ rw (eq-eqb _ _ c.if-element-identifier.true))
 
 pub returns : goal.returns
 returns c =
-    sym (comes-to (goal.at.returns c).After-sought-found _ (is-sought (goal.at.returns c).After-sought-found _ c.in-String.is) ∙ rw (ne_eqb _ _ c.if-element-identifier.false))
+    let there = (goal.at.returns c).After-sought-found in
+    sym (comes-to there _ (is-sought there _ c.in-String.is) ∙ rw (ne_eqb _ _ c.if-element-identifier.false))

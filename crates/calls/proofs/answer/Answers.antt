@@ -34,6 +34,7 @@ long c =
 pub returns : goal.returns
 unfolding answer_to
 returns c =
+    let there = (goal.at.returns c).After-message_in-end in
     let line = c.args.line.now in
     let typed = c.answer_typed in
-    record { puts = rw (le-leb (length line) 4096 (short (goal.at.returns c).After-message_in-end)) (puts_same _ _ _ _ _ (ap answer_by (sym (whole (goal.at.returns c).After-message_in-end))) typed.ensures); upper_bound = puts_within _ _ _ _ typed.ensures typed.auto.out }
+    record { puts = rw (le-leb (length line) 4096 (short there)) (puts_same _ _ _ _ _ (ap answer_by (sym (whole there))) typed.ensures); upper_bound = puts_within _ _ _ _ typed.ensures typed.auto.out }

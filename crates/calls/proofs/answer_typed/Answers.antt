@@ -31,7 +31,8 @@ rest c =
 
 pub call-requires : goal.call-requires
 call-requires c =
-    record { list_len_bound = omega (arith, lends (goal.at.call-requires c).In-Call, within (goal.at.call-requires c).In-Call); typed_len_bound = rw (length-take, length-drop) (omega arith); in_bounds = search rules }
+    let there = (goal.at.call-requires c).In-Call in
+    record { list_len_bound = omega (arith, lends there, within there); typed_len_bound = rw (length-take, length-drop) (omega arith); in_bounds = search rules }
 
 -- the rule, by what was found
 by-request : (line : List ℕ) (r found : Request) → r ≡ request_of line → r ≡ found → answer_by line ≡ answer_for line found
@@ -39,7 +40,8 @@ by-request line r found is told = ap (answer_for line) (sym is ∙ told)
 
 pub returns-in-Call : goal.returns-in-Call
 returns-in-Call c =
-    let same = ap₂ (called c.in-Call.word) (sym (lends (goal.at.returns-in-Call c).In-Call)) (sym (rest (goal.at.returns-in-Call c).In-Call)) in
+    let there = (goal.at.returns-in-Call c).In-Call in
+    let same = ap₂ (called c.in-Call.word) (sym (lends there)) (sym (rest there)) in
     puts_same _ _ _ _ _ (by-request _ _ _ c.request_of.ensures.value c.in-Call.is ∙ same) c.call.ensures
 
 pub returns-in-Help : goal.returns-in-Help

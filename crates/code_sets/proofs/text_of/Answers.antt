@@ -39,20 +39,22 @@ long c =
 
 pub returns-then-count-eq0 : goal.returns-then-count-eq0
 returns-then-count-eq0 c =
+    let there = (goal.at.returns-then-count-eq0 c).In-Done in
     let start = c.args.start in
     let values = c.args.values.now in
     let count = c.in-Done.count in
     let own = c.read_from-read.new.own in
     own_refused _ _ _ Sequence
-    (decoded_empty start values (take count own) (was_read (goal.at.returns-then-count-eq0 c).In-Done).0 (long (goal.at.returns-then-count-eq0 c).In-Done ∙ c.if-count-eq0.true))
+    (decoded_empty start values (take count own) (was_read there).0 (long there ∙ c.if-count-eq0.true))
 
 pub returns : goal.returns
 returns c =
+    let there = (goal.at.returns c).In-Done in
     let count = c.in-Done.count in
     let own = c.read_from-read.new.own in
     let start = c.args.start in
     let values = c.args.values.now in
     let text = take count own in
-    let is = decoded_made start values text (was_read (goal.at.returns c).In-Done).0 (omega (arith, long (goal.at.returns c).In-Done, c.if-count-eq0.false)) in
+    let is = decoded_made start values text (was_read there).0 (omega (arith, long there, c.if-count-eq0.false)) in
     let fills = c.read_from-read.ensures in
-    own_same _ _ _ _ _ (is ∙ sym (was_read (goal.at.returns c).In-Done).0) (record { answer = sym c.in-Done.is ∙ fills.answer; lent = fills.lent })
+    own_same _ _ _ _ _ (is ∙ sym (was_read there).0) (record { answer = sym c.in-Done.is ∙ fills.answer; lent = fills.lent })

@@ -25,10 +25,6 @@ loop-i-preserved c =
     let values = c.args.values.now in
     (omega arith, simp length-set (omega arith), rw c.loop-i.invariant.2 (mapped_more byte_of values _ c.loop-i.i 0 (omega arith) (omega arith)))
 
-below : (c : After-right_number-tested) → Below 10 c.args.values.now
-below c =
-    c.requires.below
-
 bytes : (c : After-right_number-tested) → take c.loop-i.i c.loop-i.number ≡ map byte_of c.args.values.now
 bytes c =
     let digits = c.args.values.now in
@@ -46,16 +42,17 @@ pub returns-in_default : goal.returns-in_default
 returns-in_default c =
     let digits = c.args.values.now in
     let room = length c.args.lent.now in
-    fills_same _ _ _ _ _ (read_as_written digits room (below (goal.at.returns-in_default c).After-right_number-tested))
+    fills_same _ _ _ _ _ (read_as_written digits room c.requires.below)
     (written_refused (length digits) (map byte_of) (map byte_of digits) room _ (tested (goal.at.returns-in_default c).After-right_number-tested) c.in_default.field-0 _ c.in_default.is)
 
 pub returns : goal.returns
 returns c =
+    let there = (goal.at.returns c).After-right_number-tested in
     let digits = c.args.values.now in
     let room = length c.args.lent.now in
-    fills_same _ _ _ _ _ (read_as_written digits room (below (goal.at.returns c).After-right_number-tested))
-    (written_laid (length digits) (map byte_of) (map byte_of digits) room _ (tested (goal.at.returns c).After-right_number-tested) c.in-Done.field-0 _ _ _ _ c.in-Done.is
-    (bytes (goal.at.returns c).After-right_number-tested ∙ ap (map byte_of) (sym (values_of_bytes digits)))
+    fills_same _ _ _ _ _ (read_as_written digits room c.requires.below)
+    (written_laid (length digits) (map byte_of) (map byte_of digits) room _ (tested there) c.in-Done.field-0 _ _ _ _ c.in-Done.is
+    (bytes there ∙ ap (map byte_of) (sym (values_of_bytes digits)))
     c.lay.ensures)
 
 pub loop-i-init : goal.loop-i-init

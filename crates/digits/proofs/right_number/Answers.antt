@@ -37,10 +37,6 @@ returns-then-place-count c =
     let place : c.first_other-place.result ≡ first_not is_digit number = c.first_other-place.ensures in
     simp (eq-eqb _ _ c.if-number-count.false, digits_refused number (omega arith)) (ap (λ (p : ℕ). Refused (Character p)) place)
 
-counted : (c : Else-place-count) → length c.args.number.now ≡ c.args.count
-counted c =
-    c.if-number-count.false
-
 all : (c : Else-place-count) → first_not is_digit c.args.number.now ≡ length c.args.number.now
 all c =
     let number = c.args.number.now in
@@ -80,14 +76,16 @@ overflow_add-sum c =
 pub returns-then-sum-eq0 : goal.returns-then-sum-eq0
 unfolding right_number
 returns-then-sum-eq0 c =
+    let there = (goal.at.returns-then-sum-eq0 c).After-value_of in
     let number = c.args.number.now in
-    let same = counted (goal.at.returns-then-sum-eq0 c).Else-place-count in
-    simp (eq-eqb _ _ same, made-digits (goal.at.returns-then-sum-eq0 c).After-value_of, tested (goal.at.returns-then-sum-eq0 c).After-value_of, eq-eqb _ 0 c.if-sum-eq0.true) (ap Done (sym same ∙ sym (length-map number value_of)))
+    let same = c.if-number-count.false in
+    simp (eq-eqb _ _ same, made-digits there, tested there, eq-eqb _ 0 c.if-sum-eq0.true) (ap Done (sym same ∙ sym (length-map number value_of)))
 
 pub returns-else-sum-eq0 : goal.returns-else-sum-eq0
 unfolding right_number
 returns-else-sum-eq0 c =
-    simp (eq-eqb _ _ (counted (goal.at.returns-else-sum-eq0 c).Else-place-count), made-digits (goal.at.returns-else-sum-eq0 c).After-value_of, tested (goal.at.returns-else-sum-eq0 c).After-value_of, ne_eqb _ 0 c.if-sum-eq0.false)
+    let there = (goal.at.returns-else-sum-eq0 c).After-value_of in
+    simp (eq-eqb _ _ c.if-number-count.false, made-digits there, tested there, ne_eqb _ 0 c.if-sum-eq0.false)
 
 pub slice_bounds-weighed_sum-end : goal.slice_bounds-weighed_sum-end
 slice_bounds-weighed_sum-end c =

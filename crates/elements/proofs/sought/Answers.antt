@@ -20,17 +20,13 @@ pub loop-element-init : goal.loop-element-init
 loop-element-init c =
     (omega arith, λ strings e. record { used = []; rest = strings; from = from_start c.args.message.now strings e; same = refl })
 
-left : (c : At-loop-element) → (strings : List Element) → parsed c.args.message.now ≡ made strings → Left c.args.message.now c.args.identifier c.loop-element.at strings
-left c =
-    c.loop-element.invariant.1
-
 pub returns-in_default : goal.returns-in_default
 returns-in_default c =
     let message = c.args.message.now in
     let at = c.loop-element.at in
     let x = c.args.identifier in
     let here = found_refused (string_at message at) _ (sym c.in_default.is ∙ c.string_at-found.ensures) in
-    λ strings e. absurd (never_refused message x at strings (left (goal.at.returns-in_default c).At-loop-element strings e) _ here)
+    λ strings e. absurd (never_refused message x at strings (c.loop-element.invariant.1 strings e) _ here)
 
 here : (c : In-String) → string_at c.args.message.now c.loop-element.at ≡ made c.in-String.element
 here c =
@@ -52,7 +48,7 @@ returns-then-element-identifier c =
     let x = c.args.identifier in
     let at = c.loop-element.at in
     let string = c.in-String.element in
-    λ strings e. sym (ap found_of (left_here message x at strings (left (goal.at.returns-then-element-identifier c).At-loop-element strings e) string (here (goal.at.returns-then-element-identifier c).In-String) c.if-element-identifier.true))
+    λ strings e. sym (ap found_of (left_here message x at strings (c.loop-element.invariant.1 strings e) string (here (goal.at.returns-then-element-identifier c).In-String) c.if-element-identifier.true))
 
 pub returns-then-element : goal.returns-then-element
 returns-then-element c =
@@ -60,7 +56,7 @@ returns-then-element c =
     let x = c.args.identifier in
     let at = c.loop-element.at in
     let string = c.in-String.element in
-    λ strings e. sym (ap found_of (left_last message x at strings (left (goal.at.returns-then-element c).At-loop-element strings e) string (here (goal.at.returns-then-element c).In-String) c.if-element.true))
+    λ strings e. sym (ap found_of (left_last message x at strings (c.loop-element.invariant.1 strings e) string (here (goal.at.returns-then-element c).In-String) c.if-element.true))
 
 pub loop-element-smaller : goal.loop-element-smaller
 loop-element-smaller c =
@@ -68,9 +64,10 @@ loop-element-smaller c =
 
 pub loop-element-preserved : goal.loop-element-preserved
 loop-element-preserved c =
+    let there = (goal.at.loop-element-preserved c).In-String in
     let message = c.args.message.now in
     let x = c.args.identifier in
     let at = c.loop-element.at in
     let string = c.in-String.element in
     let more = c.if-element.false in
-    ((bounds (goal.at.loop-element-preserved c).In-String more).0, λ strings e. left_more message x at strings (left (goal.at.loop-element-preserved c).At-loop-element strings e) string (here (goal.at.loop-element-preserved c).In-String) c.if-element-identifier.false more)
+    ((bounds there more).0, λ strings e. left_more message x at strings (c.loop-element.invariant.1 strings e) string (here there) c.if-element-identifier.false more)

@@ -75,8 +75,7 @@ count_is c =
     let at = c.args.at in
     let begin = at + c.digits_of.result in
     let message = c.args.message.now in
-    let bytes = message in
-    c.data_length.ensures ∙ ap (λ (left : List ℕ). length (data_of kind left)) (rest_of bytes begin)
+    c.data_length.ensures ∙ ap (λ (left : List ℕ). length (data_of kind left)) (rest_of message begin)
 
 end-inside : (c : After-data_length) → (c.args.at + c.digits_of.result) + c.data_length.result ≤ length c.args.message.now
 end-inside c =
@@ -90,8 +89,7 @@ end-inside c =
     let inside : (c.args.at + c.digits_of.result) ≤ length c.args.message.now = omega (arith, begin-is, begin_within message at x kind found.0 found.1 (omega arith)) in
     let begin = at + c.digits_of.result in
     let rest = drop begin message in
-    let bytes = message in
-    omega (arith, inside, (count_is c), data_within kind rest, length-drop begin bytes)
+    omega (arith, inside, (count_is c), data_within kind rest, length-drop begin message)
 
 part-is : (c : After-data_length) → take ((c.args.at + c.digits_of.result) + c.data_length.result - (c.args.at + c.digits_of.result)) (drop (c.args.at + c.digits_of.result) c.args.message.now) ≡ data_of c.in-Listed.kind (drop (c.args.at + c.digits_of.result) c.args.message.now)
 part-is c =
@@ -124,20 +122,20 @@ judged c =
     let at = c.args.at in
     let begin = at + c.digits_of.result in
     let rest = drop begin message in
-    let bytes = message in
-    let count_is : c.data_length.result ≡ length (data_of c.in-Listed.kind (drop (c.args.at + c.digits_of.result) c.args.message.now)) = c.data_length.ensures ∙ ap (λ (left : List ℕ). length (data_of kind left)) (rest_of bytes begin) in
+    let count_is : c.data_length.result ≡ length (data_of c.in-Listed.kind (drop (c.args.at + c.digits_of.result) c.args.message.now)) = c.data_length.ensures ∙ ap (λ (left : List ℕ). length (data_of kind left)) (rest_of message begin) in
     let part-is : take ((c.args.at + c.digits_of.result) + c.data_length.result - (c.args.at + c.digits_of.result)) (drop (c.args.at + c.digits_of.result) c.args.message.now) ≡ data_of c.in-Listed.kind (drop (c.args.at + c.digits_of.result) c.args.message.now) = ap (λ (n : ℕ). take n rest) (add-sub_cancel_left begin c.data_length.result ∙ count_is)
     ∙ data_part kind rest in c.right_data.ensures ∙ ap (right_data kind) part-is
 
 pub returns-then-not-right_data : goal.returns-then-not-right_data
 returns-then-not-right_data c =
+    let there = (goal.at.returns-then-not-right_data c).After-digits_of in
     let message = c.args.message.now in
     let at = c.args.at in
     let x = c.in-Listed.identifier in
     let kind = c.in-Listed.kind in
     let begin = at + c.digits_of.result in
     let wrong = sym (judged (goal.at.returns-then-not-right_data c).After-right_data) ∙ c.if-not-right_data.true in
-    rw (string_wrong message at x kind (found (goal.at.returns-then-not-right_data c).After-digits_of).0 (found (goal.at.returns-then-not-right_data c).After-digits_of).1 begin (begin-is (goal.at.returns-then-not-right_data c).After-digits_of) wrong)
+    rw (string_wrong message at x kind (found there).0 (found there).1 begin (begin-is there) wrong)
 
 pub next_after-requires : goal.next_after-requires
 next_after-requires c =
@@ -145,12 +143,12 @@ next_after-requires c =
 
 pub returns : goal.returns
 returns c =
+    let there = (goal.at.returns c).After-digits_of in
     let message = c.args.message.now in
-    let bytes = message in
     let x = c.in-Listed.identifier in
     let kind = c.in-Listed.kind in
     let at = c.args.at in
     let begin = at + c.digits_of.result in
     let right = sym (judged (goal.at.returns c).After-right_data) ∙ c.if-not-right_data.false in
-    ap String (element_is bytes x kind begin c.data_length.result c.next_after.result (count_is (goal.at.returns c).After-data_length) c.next_after.ensures)
-    ∙ sym (ap found_of (string_right bytes at x kind (found (goal.at.returns c).After-digits_of).0 (found (goal.at.returns c).After-digits_of).1 begin (begin-is (goal.at.returns c).After-digits_of) right))
+    ap String (element_is message x kind begin c.data_length.result c.next_after.result (count_is (goal.at.returns c).After-data_length) c.next_after.ensures)
+    ∙ sym (ap found_of (string_right message at x kind (found there).0 (found there).1 begin (begin-is there) right))

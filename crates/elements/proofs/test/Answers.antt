@@ -26,16 +26,14 @@ pub returns-then-place-message : goal.returns-then-place-message
 unfolding tested
 returns-then-place-message c =
     let message = c.args.message.now in
-    let bytes = message in
-    let place : c.first_not-place.result ≡ first_not is_message_byte bytes = c.first_not-place.ensures in
-    simp (le-leb 1 (length bytes) (omega arith), le-leb (length bytes) 48 (omega arith), ne_eqb (first_not is_message_byte bytes) (length bytes) (omega arith))
+    let place : c.first_not-place.result ≡ first_not is_message_byte message = c.first_not-place.ensures in
+    simp (le-leb 1 (length message) (omega arith), le-leb (length message) 48 (omega arith), ne_eqb (first_not is_message_byte message) (length message) (omega arith))
     (ap (λ (p : ℕ). Refused (Character p)) place)
 
 pub returns : goal.returns
 unfolding tested
 returns c =
     let message = c.args.message.now in
-    let bytes = message in
-    let all : first_not is_message_byte bytes ≡ length bytes = omega (arith, c.first_not-place.ensures, first_within is_message_byte bytes) in
-    simp (le-leb 1 (length bytes) (omega arith), le-leb (length bytes) 48 (omega arith), eq-eqb (first_not is_message_byte bytes) (length bytes) all)
+    let all : first_not is_message_byte message ≡ length message = omega (arith, c.first_not-place.ensures, first_within is_message_byte message) in
+    simp (le-leb 1 (length message) (omega arith), le-leb (length message) 48 (omega arith), eq-eqb (first_not is_message_byte message) (length message) all)
     c.count.ensures

@@ -51,9 +51,8 @@ pub returns-in-410 : goal.returns-in-410
 unfolding place_in_table table measures place_in first_not
 returns-in-410 c =
     let identifier = c.args.identifier in
-    let x = identifier in
-    row_at_place x 2 (exactly 13 DigitsWithCheck)
-    (in_run (in_row 2) 410 6 true tt x (omega arith) (omega arith))
+    row_at_place identifier 2 (exactly 13 DigitsWithCheck)
+    (in_run (in_row 2) 410 6 true tt identifier (omega arith) (omega arith))
     refl c.exactly-in-410.result c.exactly-in-410.ensures
 
 pub returns-in-11 : goal.returns-in-11
@@ -72,10 +71,9 @@ pub returns-then-is_measure : goal.returns-then-is_measure
 unfolding place_in_table table measures place_in first_not
 returns-then-is_measure c =
     let identifier = c.args.identifier in
-    let x = identifier in
-    let measure : among measures x ≡ true = sym c.is_measure.ensures ∙ c.if-is_measure.true in
-    row_at_place x 5 (exactly 6 Digits)
-    (all_among (in_row 5) measures refl x measure)
+    let measure : among measures identifier ≡ true = sym c.is_measure.ensures ∙ c.if-is_measure.true in
+    row_at_place identifier 5 (exactly 6 Digits)
+    (all_among (in_row 5) measures refl identifier measure)
     refl c.exactly-then-is_measure.result c.exactly-then-is_measure.ensures
 
 pub returns-else-is_measure : goal.returns-else-is_measure

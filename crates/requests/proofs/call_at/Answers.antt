@@ -25,9 +25,3 @@ returns c =
     let line = c.args.line.now in
     let names = sym c.in-As.is ∙ c.find.ensures in
     record { value = rw c.places_of.ensures (call_made line _ _ c.word_end-end.ensures.value _ c.equal.ensures c.if-equal.false names c.if-end-line.false); within = (rw c.places_of.ensures (places_within c.args.room _ c.requires.room_bound (usual_fits _ names)), omega arith) }
-
--- ANSWER 0: (λ c κs. c.before.requires.0)
-
--- ANSWER 8: (λ c. c.match.keys1)
-
--- ANSWER 9: (λ c. c.match.keys2)

@@ -26,5 +26,3 @@ pub returns : goal.returns
 returns c =
     let line = c.args.line.now in
     record { value = c.in_room.ensures.value ∙ room_asked line _ c.word_end-end.ensures.value c.if-line-eq0.false c.equal.ensures c.if-not-equal.false c.if-end-line.false; within = c.in_room.ensures.within }
-
--- ANSWER 7: (λ c κs. (omega arith, omega arith))

@@ -61,4 +61,5 @@ overflow_sub-result-2 c =
 
 pub overflow_add-result-3 : goal.overflow_add-result-3
 overflow_add-result-3 c =
-    omega (arith, first (goal.at.overflow_add-result-3 c).Else-byte-eq-SEPARATOR, second (goal.at.overflow_add-result-3 c).Else-byte-eq-SEPARATOR)
+    let there = (goal.at.overflow_add-result-3 c).Else-byte-eq-SEPARATOR in
+    omega (arith, first there, second there)

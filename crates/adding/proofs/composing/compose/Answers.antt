@@ -58,6 +58,7 @@ held c =
 
 pub returns : goal.returns
 returns c =
+    let there = (goal.at.returns c).After-put-at-2 in
     let buffer = c.args.buffer.now in
     let front = take c.args.count buffer in
     let closer = take c.args.closing (separator ∷ []) in
@@ -67,7 +68,7 @@ returns c =
     let x = c.args.identifier in
     let message = front ++ closer ++ spelled x ++ content in
     let whole : done ++ content ≡ message = ap (λ (bytes : List ℕ). front ++ closer ++ bytes ++ content) (digits_are (goal.at.returns c).After-spelling-digits) in
-    let end : c.put.result ≡ length message = c.put.ensures.value ∙ omega (arith, done-long (goal.at.returns c).After-put-at-2, ap length whole, length-append done content) in
-    let stays = c.put.ensures.to_after ∙ put_next buffer done content _ c.put-at-2.result c.put.result (held (goal.at.returns c).After-put-at-2) (done-long (goal.at.returns c).After-put-at-2) c.put.ensures.value in
+    let end : c.put.result ≡ length message = c.put.ensures.value ∙ omega (arith, done-long there, ap length whole, length-append done content) in
+    let stays = c.put.ensures.to_after ∙ put_next buffer done content _ c.put-at-2.result c.put.result (held there) (done-long there) c.put.ensures.value in
     rw (laying_made message (length buffer) (omega (arith, message-long (goal.at.returns c).After-digits_of-size, c.if-buffer-end.false)))
     (record { answer = ap Done end; lent = stays ∙ ap₂ (λ (bytes : List ℕ) (n : ℕ). bytes ++ drop n buffer) whole end })

@@ -39,8 +39,9 @@ comes-to c strings e o is =
 
 pub returns-in-Refused : goal.returns-in-Refused
 returns-in-Refused c =
+    let there = (goal.at.returns-in-Refused c).After-sought-found in
     let x = c.args.identifier in
-    λ strings e. sym (comes-to (goal.at.returns-in-Refused c).After-sought-found strings e _ (found_refused (sought x strings) _ (sym c.in-Refused.is ∙ found-is (goal.at.returns-in-Refused c).After-sought-found strings e)))
+    λ strings e. sym (comes-to there strings e _ (found_refused (sought x strings) _ (sym c.in-Refused.is ∙ found-is there strings e)))
 
 is-sought : (c : In-String) → (strings : List Element) → sofar c.args.old.now ≡ made strings → sought c.args.identifier strings ≡ made c.in-String.element
 is-sought c strings e =

@@ -45,10 +45,11 @@ right c =
 
 pub returns-in_default-row_of : goal.returns-in_default-row_of
 returns-in_default-row_of c =
+    let there = (goal.at.returns-in_default-row_of c).In-Done in
     let old = c.args.old.now in
     let x = c.args.identifier in
     let content = c.args.content.now in
-    sym (ap answer_of (judged_unlisted old x content (strings (goal.at.returns-in_default-row_of c).In-Done) (right (goal.at.returns-in_default-row_of c).In-Done) (no_kind_of_row x (sym c.row_of.ensures ∙ c.in_default-row_of.is))))
+    sym (ap answer_of (judged_unlisted old x content (strings there) (right there) (no_kind_of_row x (sym c.row_of.ensures ∙ c.in_default-row_of.is))))
 
 listed : (c : In-Listed) → kind_of c.args.identifier ≡ some c.in-Listed.kind
 listed c =
@@ -64,11 +65,12 @@ right_data-requires c =
 
 pub returns-then-not-right_data : goal.returns-then-not-right_data
 returns-then-not-right_data c =
+    let there = (goal.at.returns-then-not-right_data c).In-Done in
     let old = c.args.old.now in
     let x = c.args.identifier in
     let content = c.args.content.now in
     let kind = c.in-Listed.kind in
-    sym (ap answer_of (judged_wrong old x content (strings (goal.at.returns-then-not-right_data c).In-Done) (right (goal.at.returns-then-not-right_data c).In-Done) kind (listed (goal.at.returns-then-not-right_data c).In-Listed) (sym c.right_data.ensures ∙ c.if-not-right_data.true)))
+    sym (ap answer_of (judged_wrong old x content (strings there) (right there) kind (listed (goal.at.returns-then-not-right_data c).In-Listed) (sym c.right_data.ensures ∙ c.if-not-right_data.true)))
 
 -- the data is right
 good : (c : Else-not-right_data) → right_data c.in-Listed.kind c.args.content.now ≡ true
@@ -77,12 +79,13 @@ good c =
 
 pub returns-in_default-unused : goal.returns-in_default-unused
 returns-in_default-unused c =
+    let there = (goal.at.returns-in_default-unused c).In-Done in
     let old = c.args.old.now in
     let x = c.args.identifier in
     let content = c.args.content.now in
     let kind = c.in-Listed.kind in
     let is = c.in_default-unused.is in
-    is ∙ sym (ap answer_of (judged_used old x content (strings (goal.at.returns-in_default-unused c).In-Done) (right (goal.at.returns-in_default-unused c).In-Done) kind (listed (goal.at.returns-in_default-unused c).In-Listed) (good (goal.at.returns-in_default-unused c).Else-not-right_data) _ (refused_of_answer _ _ (sym is ∙ c.closing_of-unused.ensures (strings (goal.at.returns-in_default-unused c).In-Done) (right (goal.at.returns-in_default-unused c).In-Done)))))
+    is ∙ sym (ap answer_of (judged_used old x content (strings there) (right there) kind (listed (goal.at.returns-in_default-unused c).In-Listed) (good (goal.at.returns-in_default-unused c).Else-not-right_data) _ (refused_of_answer _ _ (sym is ∙ c.closing_of-unused.ensures (strings there) (right there)))))
 
 -- what stands before the new string is known
 closes : (c : In-Done-unused) (strings : List Element) → sofar c.args.old.now ≡ made strings → (between : List ℕ) × (unused_in strings c.args.identifier (length c.args.old.now) ≡ made between) × (length between ≡ c.in-Done-unused.closing)

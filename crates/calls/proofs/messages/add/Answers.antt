@@ -33,8 +33,9 @@ line c =
 
 pub returns-in-Identifier : goal.returns-in-Identifier
 returns-in-Identifier c =
+    let there = (goal.at.returns-in-Identifier c).In-Identifier in
     let places = length c.args.buffer.now in
-    puts_same _ _ _ _ _ (line (goal.at.returns-in-Identifier c).In-Identifier ∙ ap (λ (message : List ℕ). add_after places c.in-Identifier.identifier message) (sym (rest (goal.at.returns-in-Identifier c).In-Identifier))) c.add_data.ensures
+    puts_same _ _ _ _ _ (line there ∙ ap (λ (message : List ℕ). add_after places c.in-Identifier.identifier message) (sym (rest there))) c.add_data.ensures
 
 pub returns-in-Wrong : goal.returns-in-Wrong
 returns-in-Wrong c =

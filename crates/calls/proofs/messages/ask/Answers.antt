@@ -32,7 +32,8 @@ line c =
 
 pub returns-in-Identifier : goal.returns-in-Identifier
 returns-in-Identifier c =
-    puts_same _ _ _ _ _ (line (goal.at.returns-in-Identifier c).In-Identifier ∙ ap (λ (message : List ℕ). asked_line message c.in-Identifier.identifier) (sym (rest (goal.at.returns-in-Identifier c).In-Identifier))) c.put_asked.ensures
+    let there = (goal.at.returns-in-Identifier c).In-Identifier in
+    puts_same _ _ _ _ _ (line there ∙ ap (λ (message : List ℕ). asked_line message c.in-Identifier.identifier) (sym (rest there))) c.put_asked.ensures
 
 pub returns-in-Wrong : goal.returns-in-Wrong
 returns-in-Wrong c =

@@ -40,13 +40,15 @@ pattern c =
 
 pub returns-then-widths-packed_of : goal.returns-then-widths-packed_of
 returns-then-widths-packed_of c =
+    let there = (goal.at.returns-then-widths-packed_of c).After-packed_of in
     let part = c.args.part.now in
-    rw (theirs (goal.at.returns-then-widths-packed_of c).After-packed_of)
-    (match_found patterns part (candidate part) distinct_test (rw patterns_are (below (goal.at.returns-then-widths-packed_of c).After-packed_of))
-    (candidate_same part c.requires (bytes (goal.at.returns-then-widths-packed_of c).After-packed_of) (sym (packs (goal.at.returns-then-widths-packed_of c).After-packed_of) ∙ c.if-widths-packed_of.true ∙ pattern (goal.at.returns-then-widths-packed_of c).After-packed_of)))
+    rw (theirs there)
+    (match_found patterns part (candidate part) distinct_test (rw patterns_are (below there))
+    (candidate_same part c.requires (bytes there) (sym (packs there) ∙ c.if-widths-packed_of.true ∙ pattern there)))
 
 pub returns-else-widths-packed_of : goal.returns-else-widths-packed_of
 returns-else-widths-packed_of c =
+    let there = (goal.at.returns-else-widths-packed_of c).After-packed_of in
     let part = c.args.part.now in
     match_none patterns part (candidate part) (one_value_of part)
-    (λ h same. c.if-widths-packed_of.false (packs (goal.at.returns-else-widths-packed_of c).After-packed_of ∙ ap packed (sym same) ∙ sym (pattern (goal.at.returns-else-widths-packed_of c).After-packed_of)))
+    (λ h same. c.if-widths-packed_of.false (packs there ∙ ap packed (sym same) ∙ sym (pattern there)))

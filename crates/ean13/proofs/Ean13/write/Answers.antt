@@ -24,7 +24,8 @@ passed c =
 
 pub symbol-symbol-requires : goal.symbol-symbol-requires
 symbol-symbol-requires c =
-    record { digits_len = (passed (goal.at.symbol-symbol-requires c).In-Done).1; below = (passed (goal.at.symbol-symbol-requires c).In-Done).2 }
+    let there = (goal.at.symbol-symbol-requires c).In-Done in
+    record { digits_len = (passed there).1; below = (passed there).2 }
 
 pub returns : goal.returns
 unfolding writes

@@ -75,9 +75,11 @@ shape_of-digits c =
 
 pub returns : goal.returns
 returns c =
+    let before = (goal.at.returns c).In-Value in
+    let there = (goal.at.returns c).After-digits_of in
     let first = c.in-Value.first in
     let list = let lent = c.args.digits.now in put 1 (length (set lent 0 first)) (set lent 0 first) c.digits_of.new.digits in
-    own_filled _ _ list 13 (scanned-digits (goal.at.returns c).In-Value ∙ ap made (sym (list-is (goal.at.returns c).After-digits_of))) (ap length (list-is (goal.at.returns c).After-digits_of) ∙ thirteen (goal.at.returns c).In-Value) c.requires
+    own_filled _ _ list 13 (scanned-digits before ∙ ap made (sym (list-is there))) (ap length (list-is there) ∙ thirteen before) c.requires
 
 pub slice_bounds-digit_of-end : goal.slice_bounds-digit_of-end
 slice_bounds-digit_of-end c =

@@ -21,8 +21,7 @@ in_sets-left-requires c =
     let digits = c.args.digits.now in
     let below = c.requires.below in
     let half = left_half digits c.requires.digits_len below in
-    let left = half in
-    record { below = rw c.row_of-row.ensures (Row.letters_below left); digits_len = left.six; below_2 = left.below }
+    record { below = rw c.row_of-row.ensures (Row.letters_below half); digits_len = half.six; below_2 = half.below }
 
 left_is : (c : After-in_sets-left) → c.in_sets-left.result ≡ Row.values (left_half c.args.digits.now c.requires.digits_len c.requires.below)
 left_is c =
@@ -34,16 +33,14 @@ halves-requires c =
     let digits = c.args.digits.now in
     let below = c.requires.below in
     let half = left_half digits c.requires.digits_len below in
-    let ds = digits in
     let six = Row.six_values half in
-    rw (left_is (goal.at.halves-requires c).After-in_sets-left) record { to_len = simp (length-take, length-drop) (omega arith); below = Row.values_below half; below_2 = below_take 10 (length ds - 7) (drop 7 ds) (below_drop 10 7 ds below) }
+    rw (left_is (goal.at.halves-requires c).After-in_sets-left) record { to_len = simp (length-take, length-drop) (omega arith); below = Row.values_below half; below_2 = below_take 10 (length digits - 7) (drop 7 digits) (below_drop 10 7 digits below) }
 
 pub returns : goal.returns
 unfolding symbol
 returns c =
     let digits = c.args.digits.now in
-    let ds = digits in
-    c.halves.ensures ∙ ap₂ (halves_drawn AOrB) (left_is (goal.at.returns c).After-in_sets-left) (take_all (length ds - 7) (drop 7 ds) (rw length-drop (omega arith)))
+    c.halves.ensures ∙ ap₂ (halves_drawn AOrB) (left_is (goal.at.returns c).After-in_sets-left) (take_all (length digits - 7) (drop 7 digits) (rw length-drop (omega arith)))
 
 pub overflow_cast-digits : goal.overflow_cast-digits
 overflow_cast-digits c =

@@ -30,21 +30,23 @@ passed c =
 
 pub halves-requires : goal.halves-requires
 halves-requires c =
+    let there = (goal.at.halves-requires c).In-Done in
     let digits = c.values_of-tested.new.values in
-    let eight = (passed (goal.at.halves-requires c).In-Done).1 in
-    let below = (passed (goal.at.halves-requires c).In-Done).2 in
+    let eight = (passed there).1 in
+    let below = (passed there).2 in
     record { to_len = simp (length-take, length-drop) (omega arith); below = below_take 10 4 digits below; below_2 = below_take 10 (length digits - 4) (drop 4 digits) (below_drop 10 4 digits below) }
 
 pub returns : goal.returns
 unfolding symbol writes
 returns c =
+    let there = (goal.at.returns c).In-Done in
     let digits = c.values_of-tested.new.values in
     let number = c.args.number.now in
     let room = length c.args.widths.now in
-    let eight = (passed (goal.at.returns c).In-Done).1 in
+    let eight = (passed there).1 in
     let right = take_all (length digits - 4) (drop 4 digits) (rw length-drop (omega arith)) in
     written_laid 8 symbol number room _ c.values_of-tested.ensures.answer c.in-Done.field-0 _ _ _ _ c.in-Done.is
-    (c.halves.ensures ∙ ap (λ (half : List ℕ). halves_drawn A (take 4 digits) half) right ∙ ap symbol (passed (goal.at.returns c).In-Done).0)
+    (c.halves.ensures ∙ ap (λ (half : List ℕ). halves_drawn A (take 4 digits) half) right ∙ ap symbol (passed there).0)
     c.lay.ensures
 
 pub slice_bounds-halves-end : goal.slice_bounds-halves-end

@@ -25,7 +25,3 @@ returns c =
     rw (c.guarded_half.ensures, c.guarded_half-2.ensures, ends)
     (guarded_halves c.args.to.now guard (drawn (patterns_of sets) left) centre (drawn set_c right) centre-at
     (centre-at + 5 + 4 * length right) (omega arith) (omega arith))
-
--- ANSWER 7: (λ c. simp length-take (omega arith))
-
--- ANSWER 8: (λ c κs. (simp length-take (omega arith), c.before.before.before.before.before.requires.1.0))

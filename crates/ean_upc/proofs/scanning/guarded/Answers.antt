@@ -31,15 +31,15 @@ centre-compared c =
 pub returns-then-not-equal-2 : goal.returns-then-not-equal-2
 unfolding guarded
 returns-then-not-equal-2 c =
-    rw (first-passed (goal.at.returns-then-not-equal-2 c).After-equal-2, centre-compared (goal.at.returns-then-not-equal-2 c).After-equal-2 ∙ c.if-not-equal-2.true)
+    let there = (goal.at.returns-then-not-equal-2 c).After-equal-2 in
+    rw (first-passed there, centre-compared there ∙ c.if-not-equal-2.true)
 
 pub returns : goal.returns
 unfolding guarded
 returns c =
+    let there = (goal.at.returns c).After-equal-2 in
     let n = c.args.count in
     let widths = c.args.widths.now in
     let end = 3 + 4 * n + 5 + 4 * n in
-    rw (first-passed (goal.at.returns c).After-equal-2, centre-compared (goal.at.returns c).After-equal-2 ∙ c.if-not-equal-2.false)
+    rw (first-passed there, centre-compared there ∙ c.if-not-equal-2.false)
     (c.equal-3.ensures ∙ ap (λ (part : List ℕ). same part guard) (take_all (length widths - end) (drop end widths) (rw length-drop (omega arith))))
-
--- ANSWER 5: (λ c. simp length-take (omega arith))

@@ -34,10 +34,6 @@ returns-then-not-guarded c =
     let unguarded = sym c.guarded.ensures ∙ c.if-not-guarded.true in
     own_refused _ _ _ Guard (rw (eq-eqb _ _ c.if-widths-right_at.false, unguarded))
 
-counted : (c : Else-not-guarded) → length c.args.widths.now ≡ 3 + 4 * c.args.count + 5 + 4 * c.args.count + 3
-counted c =
-    c.if-widths-right_at.false
-
 guards : (c : Else-not-guarded) → guarded c.args.count c.args.widths.now ≡ true
 guards c =
     sym c.guarded.ensures ∙ c.if-not-guarded.false
@@ -67,7 +63,7 @@ returns-in_default c =
     let left_rule = characters patterns 4 n 0 (drop 3 widths) in
     let f = c.in_default.field-0 in
     let is : c.half-left.result ≡ Refused f = c.in_default.is in
-    own_passed _ _ _ f _ is (rw (eq-eqb _ _ (counted (goal.at.returns-in_default c).Else-not-guarded), guards (goal.at.returns-in_default c).Else-not-guarded, refused_of_answer left_rule f (sym is ∙ (left-fills (goal.at.returns-in_default c).After-half-left).answer)))
+    own_passed _ _ _ f _ is (rw (eq-eqb _ _ c.if-widths-right_at.false, guards (goal.at.returns-in_default c).Else-not-guarded, refused_of_answer left_rule f (sym is ∙ (left-fills (goal.at.returns-in_default c).After-half-left).answer)))
 
 left_is : (c : After-half-right) → ((characters (patterns_of c.args.sets) 4 c.args.count 0 (drop 3 c.args.widths.now)) ≡ made c.half-left.new.values) × (length c.half-left.new.values ≡ c.args.count) × Below (length (patterns_of c.args.sets)) c.half-left.new.values
 left_is c =
@@ -96,6 +92,7 @@ right-fills c =
 pub returns-in_default-right : goal.returns-in_default-right
 unfolding halves_in
 returns-in_default-right c =
+    let there = (goal.at.returns-in_default-right c).After-half-right in
     let n = c.args.count in
     let widths = c.args.widths.now in
     let right_at = 3 + 4 * n + 5 in
@@ -103,11 +100,12 @@ returns-in_default-right c =
     let f = c.in_default-right.field-0 in
     let is : c.half-right.result ≡ Refused f = c.in_default-right.is in
     own_passed _ _ _ f _ is
-    (rw (eq-eqb _ _ (counted (goal.at.returns-in_default-right c).Else-not-guarded), guards (goal.at.returns-in_default-right c).Else-not-guarded, (left_is (goal.at.returns-in_default-right c).After-half-right).0, refused_of_answer right_rule f (sym is ∙ (right-fills (goal.at.returns-in_default-right c).After-half-right).answer)))
+    (rw (eq-eqb _ _ c.if-widths-right_at.false, guards (goal.at.returns-in_default-right c).Else-not-guarded, (left_is there).0, refused_of_answer right_rule f (sym is ∙ (right-fills there).answer)))
 
 pub returns : goal.returns
 unfolding halves_in
 returns c =
+    let there = (goal.at.returns c).After-half-right in
     let n = c.args.count in
     let right_at = 3 + 4 * n + 5 in
     let widths = c.args.widths.now in
@@ -115,10 +113,10 @@ returns c =
     let left = c.half-left.new.values in
     let begun = left ++ drop n c.args.values.now in
     let right_places = take (length begun - n) (drop n begun) in
-    let found = scan_filled set_c 4 n n (drop right_at widths) right right_places _ c.in-Done-right.field-0 (right-fills (goal.at.returns c).After-half-right) c.in-Done-right.is (right_long (goal.at.returns c).After-half-right) in
-    let whole = last_part c.args.values.now left right n (left_is (goal.at.returns c).After-half-right).1 in
-    own_filled _ _ _ _ (rw (eq-eqb _ _ (counted (goal.at.returns c).Else-not-guarded), guards (goal.at.returns c).Else-not-guarded, (left_is (goal.at.returns c).After-half-right).0, found.0) (ap made (sym whole))) refl
-    (omega (arith, ap length whole, length-append left right, (left_is (goal.at.returns c).After-half-right).1, found.1))
+    let found = scan_filled set_c 4 n n (drop right_at widths) right right_places _ c.in-Done-right.field-0 (right-fills there) c.in-Done-right.is (right_long there) in
+    let whole = last_part c.args.values.now left right n (left_is there).1 in
+    own_filled _ _ _ _ (rw (eq-eqb _ _ c.if-widths-right_at.false, guards (goal.at.returns c).Else-not-guarded, (left_is there).0, found.0) (ap made (sym whole))) refl
+    (omega (arith, ap length whole, length-append left right, (left_is there).1, found.1))
 
 pub slice_bounds-half-end-3 : goal.slice_bounds-half-end-3
 slice_bounds-half-end-3 c =

@@ -107,23 +107,23 @@ loop-element-smaller c =
 
 pub loop-element-preserved : goal.loop-element-preserved
 loop-element-preserved c =
+    let there = (goal.at.loop-element-preserved c).In-String in
     let count = c.loop-element.count in
     let string = c.in-String.element in
     let message = c.args.message.now in
     let names = take count c.loop-element.used in
     let at = c.loop-element.at in
-    let n = count in
     let used = c.loop-element.used in
     let x = string.identifier in
-    let next = bounds (goal.at.loop-element-preserved c).In-String c.if-element.false in
-    let small = room (goal.at.loop-element-preserved c).In-String c.if-element.false in
-    let one_less : length message - n ≡ suc (length message) - (n + 1) = omega arith in
-    let one_more : names ++ (x ∷ []) ≡ take (n + 1) (set used n x) =
-    sym (ap (λ (k : ℕ). take k (set used n x)) (add-one n) ∙ take-suc-set used n x (omega arith)) in (
+    let next = bounds there c.if-element.false in
+    let small = room there c.if-element.false in
+    let one_less : length message - count ≡ suc (length message) - (count + 1) = omega arith in
+    let one_more : names ++ (x ∷ []) ≡ take (count + 1) (set used count x) =
+    sym (ap (λ (k : ℕ). take k (set used count x)) (add-one count) ∙ take-suc-set used count x (omega arith)) in (
       next.0,
       omega arith,
-      length-set used n x ∙ c.loop-element.invariant.2,
+      length-set used count x ∙ c.loop-element.invariant.2,
       so_far (goal.at.loop-element-preserved c).At-loop-element
-          ∙ from_more (length message - n) message at names string (here (goal.at.loop-element-preserved c).In-String) (fresh (goal.at.loop-element-preserved c).Else-is_among) c.if-element.false n
-          ∙ ap₂ (λ (k : ℕ) (more : List ℕ). counted (n + 1) (strings_from k message string.next more)) one_less one_more,
+          ∙ from_more (length message - count) message at names string (here there) (fresh (goal.at.loop-element-preserved c).Else-is_among) c.if-element.false count
+          ∙ ap₂ (λ (k : ℕ) (more : List ℕ). counted (count + 1) (strings_from k message string.next more)) one_less one_more,
     )

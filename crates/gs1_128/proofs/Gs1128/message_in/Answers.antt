@@ -30,16 +30,14 @@ permits c =
 counted : (c : Else-not-permits) → Counted (length c.args.widths.now) ((length c.args.widths.now - 19) / 6)
 counted c =
     let widths = c.args.widths.now in
-    let bars = widths in
-    count_permitted (length bars) (permits c)
+    count_permitted (length widths) (permits c)
 
 pub returns-in_default : goal.returns-in_default
 returns-in_default c =
     let widths = c.args.widths.now in
-    let bars = widths in
     let f = c.in_default.field-0 in
     let is : c.start_of-started.result ≡ Refused f = c.in_default.is in
-    own_passed _ _ _ f _ is (message_guard bars (permits (goal.at.returns-in_default c).Else-not-permits) f (refused_of_answered _ f (sym is ∙ c.start_of-started.ensures)))
+    own_passed _ _ _ f _ is (message_guard widths (permits (goal.at.returns-in_default c).Else-not-permits) f (refused_of_answered _ f (sym is ∙ c.start_of-started.ensures)))
 
 begun : (c : In-Done) → start_in c.args.widths.now ≡ made c.in-Done.start
 begun c =
@@ -53,20 +51,18 @@ slice_bounds-values-end c =
 pub message-requires : goal.message-requires
 message-requires c =
     let widths = c.args.widths.now in
-    let bars = widths in
     let start = c.in-Done.start in
     let few = counted (goal.at.message-requires c).Else-not-permits in
     let is = c.of_widths-symbol.ensures in
-    record { start_bound = omega (arith, is.start_value, start_below bars start (begun (goal.at.message-requires c).In-Done)); le_count = (omega (arith, is.count_value), omega (arith, is.count_value)); widths_len = omega (arith, is.count_value); own_len = simp length-take (omega (arith, is.count_value)); text_len = c.requires }
+    record { start_bound = omega (arith, is.start_value, start_below widths start (begun (goal.at.message-requires c).In-Done)); le_count = (omega (arith, is.count_value), omega (arith, is.count_value)); widths_len = omega (arith, is.count_value); own_len = simp length-take (omega (arith, is.count_value)); text_len = c.requires }
 
 pub returns : goal.returns
 returns c =
     let widths = c.args.widths.now in
-    let bars = widths in
     let start = c.in-Done.start in
     own_same _ _ _ _ _
-    (message_started bars (permits (goal.at.returns c).Else-not-permits) start (begun (goal.at.returns c).In-Done)
-    ∙ ap (λ (s : ℕ). values_in bars >>= (λ values. judged_values s values >>= message_from s)) (sym c.of_widths-symbol.ensures.start_value))
+    (message_started widths (permits (goal.at.returns c).Else-not-permits) start (begun (goal.at.returns c).In-Done)
+    ∙ ap (λ (s : ℕ). values_in widths >>= (λ values. judged_values s values >>= message_from s)) (sym c.of_widths-symbol.ensures.start_value))
     c.message.ensures
 
 pub start_of-started-requires : goal.start_of-started-requires

@@ -54,16 +54,18 @@ slice_bounds-draw-end c =
 
 pub draw-requires : goal.draw-requires
 draw-requires c =
+    let there = (goal.at.draw-requires c).In-Done in
     let message = c.args.message.now in
-    rw (front (goal.at.draw-requires c).After-characters_of-count) record { characters_len_bound = characters_are_few message (accepted (goal.at.draw-requires c).In-Done); below = characters_have_patterns message (accepted (goal.at.draw-requires c).In-Done) }
+    rw (front (goal.at.draw-requires c).After-characters_of-count) record { characters_len_bound = characters_are_few message (accepted there); below = characters_have_patterns message (accepted there) }
 
 pub returns : goal.returns
 returns c =
+    let there = (goal.at.returns c).In-Done in
     let own = take (c.characters_of-count.result - 0) c.characters_of-count.new.characters in
     let room = length c.args.widths.now in
     let message = c.args.message.now in
     fills_same _ (laying (drawn patterns own ++ stop) room) _ _ _
-    (write_made message room (passed (goal.at.returns c).In-Done).0 (passed (goal.at.returns c).In-Done).1
+    (write_made message room (passed there).0 (passed there).1
     ∙ ap (λ (widths : List ℕ). laying widths room)
-    (symbol_of_best message (accepted (goal.at.returns c).In-Done) ∙ ap (λ (characters : List ℕ). drawn patterns characters ++ stop) (sym (front (goal.at.returns c).After-characters_of-count))))
+    (symbol_of_best message (accepted there) ∙ ap (λ (characters : List ℕ). drawn patterns characters ++ stop) (sym (front (goal.at.returns c).After-characters_of-count))))
     c.draw.ensures

@@ -71,7 +71,8 @@ added c check e =
 
 pub overflow_cast-characters : goal.overflow_cast-characters
 overflow_cast-characters c =
-    omega (arith, start_is (goal.at.overflow_cast-characters c).After-spell-count, (spelled (goal.at.overflow_cast-characters c).After-spell-count).most)
+    let there = (goal.at.overflow_cast-characters c).After-spell-count in
+    omega (arith, start_is there, (spelled there).most)
 
 pub slice_bounds-check_of-count : goal.slice_bounds-check_of-count
 slice_bounds-check_of-count c =
@@ -83,11 +84,13 @@ slice_bounds-check_of-start c =
 
 pub slice_bounds-check_of-end : goal.slice_bounds-check_of-end
 slice_bounds-check_of-end c =
-    omega (arith, few (goal.at.slice_bounds-check_of-end c).After-spell-count, long (goal.at.slice_bounds-check_of-end c).After-spell-count)
+    let there = (goal.at.slice_bounds-check_of-end c).After-spell-count in
+    omega (arith, few there, long there)
 
 pub check_of-check-requires : goal.check_of-check-requires
 check_of-check-requires c =
-    record { start_bound = rw (start_is (goal.at.check_of-check-requires c).After-spell-count) (omega (arith, (spelled (goal.at.check_of-check-requires c).After-spell-count).most)); values_len_bound = rw (rest-is (goal.at.check_of-check-requires c).After-spell-count) (omega (arith, counts (goal.at.check_of-check-requires c).After-spell-count, few (goal.at.check_of-check-requires c).After-spell-count)) }
+    let there = (goal.at.check_of-check-requires c).After-spell-count in
+    record { start_bound = rw (start_is there) (omega (arith, (spelled there).most)); values_len_bound = rw (rest-is there) (omega (arith, counts there, few there)) }
 
 pub overflow_cast-characters-2 : goal.overflow_cast-characters-2
 overflow_cast-characters-2 c =
@@ -97,7 +100,8 @@ overflow_cast-characters-2 c =
 
 pub bounds-characters-count : goal.bounds-characters-count
 bounds-characters-count c =
-    omega (arith, few (goal.at.bounds-characters-count c).After-spell-count, long (goal.at.bounds-characters-count c).After-spell-count)
+    let there = (goal.at.bounds-characters-count c).After-spell-count in
+    omega (arith, few there, long there)
 
 pub overflow_add-result : goal.overflow_add-result
 overflow_add-result c =
@@ -105,4 +109,5 @@ overflow_add-result c =
 
 pub returns : goal.returns
 returns c =
-    record { value = sym (length-is (goal.at.returns c).After-spell-count); characters_after = added (goal.at.returns c).After-spell-count c.check_of-check.result c.check_of-check.ensures }
+    let there = (goal.at.returns c).After-spell-count in
+    record { value = sym (length-is there); characters_after = added there c.check_of-check.result c.check_of-check.ensures }

@@ -71,18 +71,17 @@ is-start c =
 ends : (c : After-equal) → c.equal.result ≡ same (back c.args.widths.now) stop
 ends c =
     let widths = c.args.widths.now in
-    let list = widths in
-    c.equal.ensures ∙ ap (λ (part : List ℕ). same part stop) (take_all (length list - (length list - 7)) (back list) (rw length-drop (omega arith)))
+    c.equal.ensures ∙ ap (λ (part : List ℕ). same part stop) (take_all (length widths - (length widths - 7)) (back widths) (rw length-drop (omega arith)))
 
 pub returns-then-not-equal : goal.returns-then-not-equal
 returns-then-not-equal c =
+    let there = (goal.at.returns-then-not-equal c).After-equal in
     let widths = c.args.widths.now in
-    let list = widths in
-    sym (ap answered (no-stop-there list (is-start (goal.at.returns-then-not-equal c).After-equal).1 (sym (ends (goal.at.returns-then-not-equal c).After-equal) ∙ c.if-not-equal.true)))
+    sym (ap answered (no-stop-there widths (is-start there).1 (sym (ends there) ∙ c.if-not-equal.true)))
 
 pub returns : goal.returns
 returns c =
+    let there = (goal.at.returns c).After-equal in
     let widths = c.args.widths.now in
-    let list = widths in
     let start = c.in-Value.start in
-    sym (ap answered (both-there list start (is-start (goal.at.returns c).After-equal).0 (is-start (goal.at.returns c).After-equal).1 (sym (ends (goal.at.returns c).After-equal) ∙ c.if-not-equal.false)))
+    sym (ap answered (both-there widths start (is-start there).0 (is-start there).1 (sym (ends there) ∙ c.if-not-equal.false)))

@@ -46,14 +46,15 @@ returns-in_default-tested c =
 
 pub returns : goal.returns
 returns c =
+    let there = (goal.at.returns c).In-Done in
     let start = c.args.start in
     let values = c.args.values.now in
     let count = c.in-Done.count in
     let own = c.text_of-read.new.text in
     let strings = made_of_answer _ c.in-Done-tested.field-0 (sym c.in-Done-tested.is ∙ c.test-tested.ensures) in
-    let right = message_right start values (take count own) (front (goal.at.returns c).In-Done).0 strings.0 strings.1 in
+    let right = message_right start values (take count own) (front there).0 strings.0 strings.1 in
     let fills = c.text_of-read.ensures in
-    own_same _ _ _ _ _ (right ∙ sym (front (goal.at.returns c).In-Done).0) (record { answer = sym c.in-Done.is ∙ fills.answer; lent = fills.lent })
+    own_same _ _ _ _ _ (right ∙ sym (front there).0) (record { answer = sym c.in-Done.is ∙ fills.answer; lent = fills.lent })
 
 pub slice_bounds-test-end : goal.slice_bounds-test-end
 slice_bounds-test-end c =

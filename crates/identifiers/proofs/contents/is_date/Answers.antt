@@ -36,23 +36,19 @@ pair_at-month-requires c =
     let p = paired c 2 (omega arith) in
     record { at_in_bounds = p.0; at_value = p.1.0; at_value_2 = p.1.1 }
 
-month-is : (c : After-pair_at-month) → c.pair_at-month.result ≡ (pair_at c.args.bytes.now 2)
-month-is c =
-    c.pair_at-month.ensures.value
-
 pub returns-then-month-lt1 : goal.returns-then-month-lt1
 unfolding is_date
 returns-then-month-lt1 c =
     let bytes = c.args.bytes.now in
     let month = pair_at bytes 2 in
-    rw (all (goal.at.returns-then-month-lt1 c).Else-not-is_digits, lt-leb 1 month (omega (arith, month-is (goal.at.returns-then-month-lt1 c).After-pair_at-month)))
+    rw (all (goal.at.returns-then-month-lt1 c).Else-not-is_digits, lt-leb 1 month (omega (arith, c.pair_at-month.ensures.value)))
 
 pub returns-then-month-gt12 : goal.returns-then-month-gt12
 unfolding is_date
 returns-then-month-gt12 c =
     let bytes = c.args.bytes.now in
     let month = pair_at bytes 2 in
-    let is = month-is (goal.at.returns-then-month-gt12 c).After-pair_at-month in
+    let is = c.pair_at-month.ensures.value in
     rw (all (goal.at.returns-then-month-gt12 c).Else-not-is_digits, le-leb 1 month (omega arith), lt-leb month 12 (omega arith))
 
 pub pair_at-requires : goal.pair_at-requires
@@ -70,5 +66,5 @@ unfolding is_date
 returns c =
     let bytes = c.args.bytes.now in
     let month = pair_at bytes 2 in
-    let is = month-is (goal.at.returns c).After-pair_at-month in
+    let is = c.pair_at-month.ensures.value in
     rw (all (goal.at.returns c).Else-not-is_digits, le-leb 1 month (omega arith), le-leb month 12 (omega arith), c.pair_at-2.ensures.value, c.days_in-last.ensures, c.pair_at.ensures.value, is)

@@ -44,12 +44,13 @@ pair-laid c =
 
 pub loop-i-preserved : goal.loop-i-preserved
 loop-i-preserved c =
+    let there = (goal.at.loop-i-preserved c).After-lay in
     let digits = c.args.digits.now in
     let values = paired digits in
     let i = c.loop-i.i in (
       omega arith,
       omega arith,
-      rw (pair-laid (goal.at.loop-i-preserved c).After-lay) (draw_goes pairs 10 values c.args.to.now sized_pairs (within (goal.at.loop-i-preserved c).After-lay) i c.loop-i.to (omega (arith, seven (goal.at.loop-i-preserved c).After-lay)) c.loop-i.invariant.2),
+      rw (pair-laid there) (draw_goes pairs 10 values c.args.to.now sized_pairs (within there) i c.loop-i.to (omega (arith, seven there)) c.loop-i.invariant.2),
     )
 
 pub returns : goal.returns
@@ -71,5 +72,6 @@ overflow_cast-digits-in-loop-i c =
 
 pub pair-pair-requires : goal.pair-pair-requires
 pair-pair-requires c =
+    let there = (goal.at.pair-pair-requires c).At-loop-i in
     let i = c.loop-i.i in
-    record { first_bound = below (goal.at.pair-pair-requires c).At-loop-i (2 * i) (omega arith); second_bound = below (goal.at.pair-pair-requires c).At-loop-i (2 * i + 1) (omega arith) }
+    record { first_bound = below there (2 * i) (omega arith); second_bound = below there (2 * i + 1) (omega arith) }

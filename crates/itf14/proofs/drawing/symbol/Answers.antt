@@ -35,9 +35,10 @@ slice_bounds-symbol-end-2 c =
 pub returns : goal.returns
 unfolding symbol
 returns c =
+    let there = (goal.at.returns c).After-draw_pairs in
     let bars = c.draw_pairs.new.to in
     let filled = put 4 74 c.lay.new.lent bars in
-    let three : length (take 3 (drop 74 filled)) ≡ 3 = simp (length-take, length-drop) (omega (arith, length-filled (goal.at.returns c).After-draw_pairs)) in
+    let three : length (take 3 (drop 74 filled)) ≡ 3 = simp (length-take, length-drop) (omega (arith, length-filled there)) in
     ap₂ (λ (front end : List ℕ). put 74 77 (put 4 74 front bars) end) c.lay.ensures.lent (laid_whole stop _ _ _ c.lay-2.ensures three)
-    ∙ whole (replicate 77 0) bars refl (seventy (goal.at.returns c).After-draw_pairs)
+    ∙ whole (replicate 77 0) bars refl (seventy there)
     ∙ ap (λ (middle : List ℕ). start ++ middle ++ stop) c.draw_pairs.ensures

@@ -42,8 +42,9 @@ stop-compared c =
 pub returns-then-not-equal-2 : goal.returns-then-not-equal-2
 unfolding between
 returns-then-not-equal-2 c =
+    let there = (goal.at.returns-then-not-equal-2 c).After-equal-2 in
     let counted = c.if-widths-ne-WIDTHS.false in
-    own_refused _ _ _ Guard (rw (eq-eqb _ _ counted, starts (goal.at.returns-then-not-equal-2 c).After-equal-2, stop-compared (goal.at.returns-then-not-equal-2 c).After-equal-2 ∙ c.if-not-equal-2.true))
+    own_refused _ _ _ Guard (rw (eq-eqb _ _ counted, starts there, stop-compared there ∙ c.if-not-equal-2.true))
 
 -- the pairs are left to scan
 scanning : (c : Else-not-equal-2) → between start stop pairs 10 7 c.args.widths.now ≡ characters pairs 10 7 0 (drop 4 c.args.widths.now)
@@ -96,7 +97,3 @@ returns c =
     let over : loop.i ≡ 7 = omega arith in
     rw over
     (own_filled _ _ loop.values 7 (scanning (goal.at.returns c).Else-not-equal-2 ∙ scan_ends pairs 10 7 0 bars loop.values (omega arith) (rw over at loop.invariant.2)) (omega arith) (omega arith))
-
--- ANSWER 1: (λ c. simp length-take (omega arith))
-
--- ANSWER 18: (λ c κs. simp (length-take, length-drop) (omega arith))

@@ -41,35 +41,3 @@ pub returns-in-Data : goal.returns-in-Data
 unfolding described
 returns-in-Data c =
     rw c.in-Data.is c.put_text-in-Data.ensures
-
--- ANSWER 0: (λ c. c.match.keys1)
-
--- ANSWER 3: (λ c. c.match.keys2)
-
--- ANSWER 6: (λ c. c.match.keys3)
-
--- ANSWER 9: (λ c. c.match.keys4)
-
--- ANSWER 12: (λ c. c.match.keys5)
-
--- ANSWER 15: (λ c. c.match.keys6)
-
--- ANSWER 18: (λ c. c.match.keys7)
-
--- ANSWER 21: (λ c. c.match.keys8)
-
--- ANSWER 24: (λ c. c.before.before.put-text.auto.1.0)
-
--- ANSWER 26: (λ c. c.before.before.put-text2.auto.1.0)
-
--- ANSWER 28: (λ c. c.before.before.put-text3.auto.1.0)
-
--- ANSWER 30: (λ c. c.before.before.put-text4.auto.1.0)
-
--- ANSWER 32: (λ c. c.before.before.put-text5.auto.1.0)
-
--- ANSWER 34: (λ c. c.before.before.put-text6.auto.1.0)
-
--- ANSWER 36: (λ c. c.before.before.put-text7.auto.1.0)
-
--- ANSWER 38: (λ c. c.before.before.put-text8.auto.1.0)

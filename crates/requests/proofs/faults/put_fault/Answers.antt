@@ -39,19 +39,3 @@ pub returns-in-Malformed : goal.returns-in-Malformed
 unfolding fault_line
 returns-in-Malformed c =
     rw c.in-Malformed.is (puts_then _ _ _ _ _ _ _ c.put_text-at-in-Malformed.ensures c.put_described-in-Malformed.ensures)
-
--- ANSWER 0: (λ c. c.match.keys1)
-
--- ANSWER 3: (λ c. c.match.keys2)
-
--- ANSWER 9: (λ c κs. simp (length-take, length-drop) (omega arith))
-
--- ANSWER 11: (λ c. c.match.keys3)
-
--- ANSWER 17: (λ c κs. simp (length-take, length-drop) (omega arith))
-
--- ANSWER 19: (λ c. c.match.keys4)
-
--- ANSWER 25: (λ c κs. simp (length-take, length-drop) (omega arith))
-
--- ANSWER 27: (λ c. c.before.before.put-text.auto.1.0)

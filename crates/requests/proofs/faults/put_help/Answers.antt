@@ -7,5 +7,3 @@ pub returns : goal.returns
 unfolding help_line calls
 returns c =
     c.put_text.ensures
-
--- ANSWER 2: (λ c. c.before.before.put-text.auto.1.0)

@@ -36,20 +36,17 @@ made-short c =
     let short = c.short_in-scanned.new.short in
     digits_scanned 7 symbol scanned symbol_of_scan widths _ short _ c.in-Done.field-0 c.short_in-scanned.ensures c.in-Done.is refl
 
-stands-for : (c : After-expanded-digits) → c.expanded-digits.result ≡ expanded c.short_in-scanned.new.short
-stands-for c =
-    c.expanded-digits.ensures
-
 twelve : (c : After-expanded-digits) → length c.expanded-digits.result ≡ 12
 twelve c =
     let short = c.short_in-scanned.new.short in
-    ap length (stands-for c) ∙ length_of_expanded short
+    ap length c.expanded-digits.ensures ∙ length_of_expanded short
 
 pub lay_values-laid-requires : goal.lay_values-laid-requires
 lay_values-laid-requires c =
+    let there = (goal.at.lay_values-laid-requires c).After-expanded-digits in
     let short = c.short_in-scanned.new.short in
-    let below = subst (Below 10) (sym (stands-for (goal.at.lay_values-laid-requires c).After-expanded-digits)) (expanded_below short (made-short (goal.at.lay_values-laid-requires c).After-expanded-digits).2) in
-    record { values_nonzero = omega (arith, twelve (goal.at.lay_values-laid-requires c).After-expanded-digits); values_len_bound = omega (arith, twelve (goal.at.lay_values-laid-requires c).After-expanded-digits); below = below }
+    let below = subst (Below 10) (sym c.expanded-digits.ensures) (expanded_below short (made-short there).2) in
+    record { values_nonzero = omega (arith, twelve there); values_len_bound = omega (arith, twelve there); below = below }
 
 -- the bytes of the digits fit in the twelve places that they are laid in, so all that refuses is the check digit
 module _ (short : List ℕ) where
@@ -92,9 +89,8 @@ passed c =
     let bytes = c.lay_values-laid.new.lent in
     let stands-for : c.expanded-digits.result ≡ expanded c.short_in-scanned.new.short = c.expanded-digits.ensures in
     let same-rule : number_read (made (expanded c.short_in-scanned.new.short)) 12 ≡ number_read (made c.expanded-digits.result) 12 = ap (λ (ds : List ℕ). number_read (made ds) 12) (sym stands-for) in
-    let s = short in
-    let long : (xs : List ℕ) → number_read (made (expanded s)) 12 ≡ made xs → length xs ≡ 12 = λ xs e. ap length (sym (right s xs e).1) ∙ length-map (expanded s) byte_of ∙ length_of_expanded s in
-    right s bytes (own_made _ _ _ _ _ c.in-Done-laid.is (own_of_fills _ _ _ _ _ same-rule c.lay_values-laid.ensures) long)
+    let long : (xs : List ℕ) → number_read (made (expanded short)) 12 ≡ made xs → length xs ≡ 12 = λ xs e. ap length (sym (right short xs e).1) ∙ length-map (expanded short) byte_of ∙ length_of_expanded short in
+    right short bytes (own_made _ _ _ _ _ c.in-Done-laid.is (own_of_fills _ _ _ _ _ same-rule c.lay_values-laid.ensures) long)
 
 pub returns-then-not-is_own : goal.returns-then-not-is_own
 unfolding reads
@@ -106,6 +102,7 @@ returns-then-not-is_own c =
 pub returns : goal.returns
 unfolding reads
 returns c =
+    let there = (goal.at.returns c).In-Done-laid in
     let short = c.short_in-scanned.new.short in
     let own : is_own short ≡ true = sym c.is_own.ensures ∙ c.if-not-is_own.false in
-    fills_same _ _ _ _ _ (rw ((made-short (goal.at.returns c).After-expanded-digits).0, (passed (goal.at.returns c).In-Done-laid).0, own, (passed (goal.at.returns c).In-Done-laid).1) refl) c.lay.ensures
+    fills_same _ _ _ _ _ (rw ((made-short (goal.at.returns c).After-expanded-digits).0, (passed there).0, own, (passed there).1) refl) c.lay.ensures

@@ -51,7 +51,8 @@ made-short c =
 
 pub symbol-symbol-requires : goal.symbol-symbol-requires
 symbol-symbol-requires c =
-    record { short_len = (condensed_made _ _ (made-short (goal.at.symbol-symbol-requires c).In-Done-condensed)).1; below = condensed_below _ _ (made-short (goal.at.symbol-symbol-requires c).In-Done-condensed) (passed (goal.at.symbol-symbol-requires c).After-condense-condensed).2 }
+    let there = (goal.at.symbol-symbol-requires c).In-Done-condensed in
+    record { short_len = (condensed_made _ _ (made-short there)).1; below = condensed_below _ _ (made-short there) (passed (goal.at.symbol-symbol-requires c).After-condense-condensed).2 }
 
 pub returns : goal.returns
 unfolding writes

@@ -46,14 +46,10 @@ none : (digits : List ℕ) → first_fit (drop 4 (shorts digits)) digits ≡ ref
 unfolding first_fit shorts
 none digits = refl
 
-by-rule : (c : After-equal) → c.short_by-tried.result ≡ short_of c.args.digits.now c.loop-rule.rule
-by-rule c =
-    c.short_by-tried.ensures
-
 compared : (c : After-equal) → c.equal.result ≡ same (expanded (short_of c.args.digits.now c.loop-rule.rule)) c.args.digits.now
 compared c =
     let digits = c.args.digits.now in
-    c.equal.ensures ∙ ap (λ (whole : List ℕ). same whole digits) (c.expanded-whole.ensures ∙ ap expanded (by-rule c))
+    c.equal.ensures ∙ ap (λ (whole : List ℕ). same whole digits) (c.expanded-whole.ensures ∙ ap expanded c.short_by-tried.ensures)
 
 pub returns-then-equal : goal.returns-then-equal
 returns-then-equal c =
@@ -61,7 +57,7 @@ returns-then-equal c =
     let rule = c.loop-rule.rule in
     let tried = c.short_by-tried.result in
     let loop = c.loop-rule in
-    let made-short = loop.invariant.2 ∙ fits digits rule (omega arith) (same_true _ _ (sym (compared (goal.at.returns-then-equal c).After-equal) ∙ c.if-equal.true)) ∙ ap made (sym (by-rule (goal.at.returns-then-equal c).After-equal)) in
+    let made-short = loop.invariant.2 ∙ fits digits rule (omega arith) (same_true _ _ (sym (compared (goal.at.returns-then-equal c).After-equal) ∙ c.if-equal.true)) ∙ ap made (sym c.short_by-tried.ensures) in
     let long = (condensed_made digits tried made-short).1 in
     let room = laying_made tried (length loop.short) (omega (arith, ap length loop.invariant.1, c.requires.short_len)) in
     subst (λ (before : List ℕ). FillsOwn (condensed digits) before c.lay.result c.lay.new.lent) loop.invariant.1

@@ -46,7 +46,8 @@ values_below c =
 
 pub guarded_half-requires : goal.guarded_half-requires
 guarded_half-requires c =
-    rw (values_are (goal.at.guarded_half-requires c).After-in_sets-values) record { to_len = omega (arith, six (goal.at.guarded_half-requires c).After-in_sets-values); below = values_below (goal.at.guarded_half-requires c).After-in_sets-values }
+    let there = (goal.at.guarded_half-requires c).After-in_sets-values in
+    rw (values_are there) record { to_len = omega (arith, six there); below = values_below there }
 
 begun-is : (c : After-guarded_half) → c.guarded_half.new.to ≡ (guard ++ drawn (patterns_of AOrB) (Row.values (printed c.args.short.now c.requires.short_len c.requires.below)))
 begun-is c =
@@ -66,12 +67,13 @@ length-begun c =
 pub returns : goal.returns
 unfolding symbol
 returns c =
+    let there = (goal.at.returns c).After-guarded_half in
     let short = c.args.short.now in
     let digits = printed short c.requires.short_len c.requires.below in
     let values = Row.values digits in
     let begun = guard ++ drawn (patterns_of AOrB) values in
     let blank : List ℕ = replicate 33 0 in
-    let whole : length (begun ++ drop 27 blank) ≡ 33 = simp length-append (omega (arith, length-begun (goal.at.returns c).After-guarded_half)) in
+    let whole : length (begun ++ drop 27 blank) ≡ 33 = simp length-append (omega (arith, length-begun there)) in
     let room : length (take 6 (drop 27 (begun ++ drop 27 blank))) ≡ 6 = simp (length-take, length-drop) (omega arith) in
-    ap₂ (λ (front end : List ℕ). put 27 33 (front ++ drop 27 blank) end) (begun-is (goal.at.returns c).After-guarded_half) (laid_whole end_guard _ _ _ c.lay.ensures (rw (begun-is (goal.at.returns c).After-guarded_half) room))
-    ∙ rw whole at (last_part blank begun end_guard 27 (length-begun (goal.at.returns c).After-guarded_half))
+    ap₂ (λ (front end : List ℕ). put 27 33 (front ++ drop 27 blank) end) (begun-is there) (laid_whole end_guard _ _ _ c.lay.ensures (rw (begun-is there) room))
+    ∙ rw whole at (last_part blank begun end_guard 27 (length-begun there))
