@@ -14,7 +14,6 @@ import sys
 
 WORD = re.compile(r'[^\s(){}.;,@"«»`:\[\]|]+')
 SIGNATURE = re.compile(r'(?m)^\s*(?:(?:pub|abbrev|unfoldable)\s+)*([^\s(){}.;,@"«»:]+)(?: \{[^{}\n]*\})* :(?:\s|$)')
-CONSTRUCTOR = re.compile(r'(?m)^\s+([^\s(){}.;,@"«»:]+(?: [^\s(){}.;,@"«»:]+)*) : ')
 RULE = re.compile(r"(?m)^ruleset pub (\S+)|^pub ruleset (\S+)|^ruleset (\S+)")
 PROOF = re.compile(r"/proofs/(?:.*/)?Proof\.antt$")
 # Lemmas that would have the name of the definition that they speak of.

@@ -5,7 +5,6 @@ use mathlib.Core.Path.{◌≡◌, refl}
 use mathlib.Core.Bool.{Bool, true, false, cond, ◌&&◌}
 use mathlib.Core.List.{List, [], ◌∷◌}
 use native.Mathlib.Omega.{arith}
-use lib.ListN.{drop}
 use lib.Dec.{leb}
 use borrow.Author.Tests.{leb-true}
 use Rattle.laws.proofs.Booleans.{both_hold}
@@ -28,10 +27,6 @@ module _ (row : Row) (rows : List Row) (word : List ℕ) {test : Bool} where
   pub passed : {named : Named} → test ≡ same word row.word → test ≡ false → named ≡ named_in rows word → named ≡ named_in (row ∷ rows) word
   unfolding named_in
   passed is e on = rw (← is, e) on
-
--- k rows are passed: what the rows after them name is named by all
-abbrev pub Left : List Row → ℕ → List ℕ → Type 0
-Left rows k word = (named : Named) → named ≡ named_in (drop k rows) word → named ≡ named_in rows word
 
 -- one test over the table
 abbrev fitting : List Row → Bool
