@@ -10,13 +10,14 @@ use Rattle.refusal.specs.Outcome.{Outcome, made, ◌>>=◌}
 use Rattle.refusal.specs.Fills.{answer_of}
 use Rattle.refusal.proofs.OutcomeLaws.{made_same}
 use Rattle.elements.specs.declared.Element.{Element}
+use Rattle.elements.specs.declared.Found.TheVariants.{String}
 use Rattle.elements.specs.Found.{found_of, sought}
 use Rattle.laws.proofs.AmongLaws.{among_of_nil}
 use Rattle.elements.proofs.CountLaws.{found_string, found_refused}
 use Rattle.elements.proofs.FromRule.{tested_made}
 use Rattle.adding.specs.Adding.{sofar, unused_in}
 use Rattle.adding.proofs.AddLaws.{sofar_none, sofar_tested, after, unused_sought}
-use Rattle.adding.proofs.judging.closing_of.Goals.{After-sought-found, In-String}
+use Rattle.adding.proofs.judging.closing_of.Goals.{After-sought-found}
 use Rattle.adding.proofs.judging.closing_of.Goals as goal
 
 pub returns-then-old-lt1 : goal.returns-then-old-lt1
@@ -43,16 +44,16 @@ returns-in-Refused c =
     let x = c.args.identifier in
     λ strings e. sym (comes-to there strings e _ (found_refused (sought x strings) _ (sym c.in-Refused.is ∙ found-is there strings e)))
 
-is-sought : (c : In-String) → (strings : List Element) → sofar c.args.old.now ≡ made strings → sought c.args.identifier strings ≡ made c.in-String.element
-is-sought c strings e =
-    let old = c.args.old.now in
-    let found-is : c.sought-found.result ≡ found_of (sought c.args.identifier strings) = c.sought-found.ensures strings (tested_made old strings (sym (sofar_tested old (omega arith)) ∙ e)).strings in
-    found_string (sought c.args.identifier strings) c.in-String.element (sym c.in-String.is ∙ found-is)
+is-sought : (c : After-sought-found) → (strings : List Element) → sofar c.args.old.now ≡ made strings → (string : Element) → c.sought-found.result ≡ String string → sought c.args.identifier strings ≡ made string
+is-sought c strings e string is =
+    found_string (sought c.args.identifier strings) string (sym is ∙ found-is c strings e)
 
 pub returns-then-element-identifier : goal.returns-then-element-identifier
 returns-then-element-identifier c =
-    λ strings e. sym (comes-to (goal.at.returns-then-element-identifier c).After-sought-found strings e _ (is-sought (goal.at.returns-then-element-identifier c).In-String strings e) ∙ rw (eq-eqb _ _ c.if-element-identifier.true))
+    let there = (goal.at.returns-then-element-identifier c).After-sought-found in
+    λ strings e. sym (comes-to there strings e _ (is-sought there strings e _ c.in-String.is) ∙ rw (eq-eqb _ _ c.if-element-identifier.true))
 
 pub returns : goal.returns
 returns c =
-    λ strings e. ap Done c.closing_after.ensures ∙ sym (comes-to (goal.at.returns c).After-sought-found strings e _ (is-sought (goal.at.returns c).In-String strings e) ∙ rw (ne_eqb _ _ c.if-element-identifier.false))
+    let there = (goal.at.returns c).After-sought-found in
+    λ strings e. ap Done c.closing_after.ensures ∙ sym (comes-to there strings e _ (is-sought there strings e _ c.in-String.is) ∙ rw (ne_eqb _ _ c.if-element-identifier.false))
