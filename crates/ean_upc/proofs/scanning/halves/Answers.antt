@@ -1,21 +1,22 @@
 -- `ean_upc::scanning::halves` meets its contract: each `return` is the first line of the rule that refuses, and the two halves of the working
 -- list are filled with the two halves' values.
 use Prim.Native.Nat.{ℕ, ◌+◌, ◌-◌, ◌*◌}
-use mathlib.Core.Path.{◌≡◌, refl, sym, ap, ap₂, ◌∙◌}
+use mathlib.Core.Path.{◌≡◌, refl, sym, ap, ◌∙◌}
 use mathlib.Core.Bool.{true}
 use mathlib.Core.List.{List, ◌++◌}
 use native.Mathlib.Omega.{arith}
 use lib.ListN.{length, take, drop, length-append, length-take, length-drop}
-use lib.Seq.{take_all}
+use lib.Seq.{take_all, length-take-le}
 use borrow.Author.Tests.{eq-eqb, ne_eqb}
 use Rattle.laws.specs.Below.{Below}
 use Rattle.laws.proofs.Parts.{last_part}
+use Rattle.refusal.specs.declared.Answer.{Answer}
 use Rattle.refusal.specs.declared.Answer.TheVariants.{Refused}
 use Rattle.refusal.specs.declared.Refusal.TheVariants.{Count, Guard}
 use Rattle.refusal.specs.Outcome.{made}
 use Rattle.refusal.specs.Fills.{FillsOwn}
 use Rattle.refusal.proofs.FillsLaws.{refused_of_answer}
-use Rattle.refusal.proofs.OwnLaws.{own_refused, own_passed, own_same, own_filled}
+use Rattle.refusal.proofs.OwnLaws.{own_refused, own_passed, own_filled}
 use Rattle.patterns.specs.Patterns.{characters}
 use Rattle.patterns.proofs.ScanLaws.{scan_filled}
 use Rattle.ean_upc.specs.Tables.{set_c}
@@ -38,21 +39,12 @@ guards : (c : Else-not-guarded) → guarded c.args.count c.args.widths.now ≡ t
 guards c =
     sym c.guarded.ensures ∙ c.if-not-guarded.false
 
--- a half is scanned from where it begins to the end of the list
-onward : (c : Else-not-guarded) → (at : ℕ) → take (length c.args.widths.now - at) (drop at c.args.widths.now) ≡ drop at c.args.widths.now
-onward c at =
-    let widths = c.args.widths.now in
-    take_all (length widths - at) (drop at widths) (rw length-drop (omega arith))
-
-left-fills : (c : After-half-left) → FillsOwn (characters (patterns_of c.args.sets) 4 c.args.count 0 (drop 3 c.args.widths.now)) (take c.args.count c.args.values.now) c.half-left.result c.half-left.new.values
-left-fills c =
-    let n = c.args.count in
-    let places = take n c.args.values.now in
-    let patterns = patterns_of c.args.sets in
-    let widths = c.args.widths.now in
-    let onward : (at : ℕ) → take (length c.args.widths.now - at) (drop at c.args.widths.now) ≡ drop at c.args.widths.now = λ at. take_all (length widths - at) (drop at widths) (rw length-drop (omega arith)) in
-    let long : length places ≡ n = simp length-take (omega arith) in
-    own_same _ _ _ _ _ (ap₂ (λ (k : ℕ) (part : List ℕ). characters patterns 4 k 0 part) (sym long) (sym (onward 3))) c.half-left.ensures
+-- a half is scanned from where it begins to the end of the list, into as many places as it has characters
+module _ (patterns : List (List ℕ)) (n first at : ℕ) (widths : List ℕ) {places after : List ℕ} {r : Answer} where
+  half-fills : length places ≡ n → FillsOwn (characters patterns 4 (length places) first (take (length widths - at) (drop at widths))) places r after → FillsOwn (characters patterns 4 n first (drop at widths)) places r after
+  half-fills long fills =
+      let onward = take_all (length widths - at) (drop at widths) (rw length-drop (omega arith)) in
+      rw (long, onward) at fills
 
 pub returns-in_default : goal.returns-in_default
 unfolding halves_in
@@ -63,19 +55,18 @@ returns-in_default c =
     let left_rule = characters patterns 4 n 0 (drop 3 widths) in
     let f = c.in_default.field-0 in
     let is : c.half-left.result ≡ Refused f = c.in_default.is in
-    own_passed _ _ _ f _ is (rw (eq-eqb _ _ c.if-widths-right_at.false, guards (goal.at.returns-in_default c).Else-not-guarded, refused_of_answer left_rule f (sym is ∙ (left-fills (goal.at.returns-in_default c).After-half-left).answer)))
+    let long = length-take-le n c.args.values.now (omega (arith, c.requires.values_len)) in
+    let fills = half-fills patterns n 0 3 widths long c.half-left.ensures in
+    own_passed _ _ _ f _ is (rw (eq-eqb _ _ c.if-widths-right_at.false, guards (goal.at.returns-in_default c).Else-not-guarded, refused_of_answer left_rule f (sym is ∙ fills.answer)))
 
-left_is : (c : After-half-right) → ((characters (patterns_of c.args.sets) 4 c.args.count 0 (drop 3 c.args.widths.now)) ≡ made c.half-left.new.values) × (length c.half-left.new.values ≡ c.args.count) × Below (length (patterns_of c.args.sets)) c.half-left.new.values
+left_is : (c : After-half-right) → (characters (patterns_of c.args.sets) 4 c.args.count 0 (drop 3 c.args.widths.now) ≡ made c.half-left.new.values) × (length c.half-left.new.values ≡ c.args.count) × Below (length (patterns_of c.args.sets)) c.half-left.new.values
 left_is c =
     let n = c.args.count in
-    let places = take n c.args.values.now in
     let patterns = patterns_of c.args.sets in
     let widths = c.args.widths.now in
-    let left = c.half-left.new.values in
-    let onward : (at : ℕ) → take (length c.args.widths.now - at) (drop at c.args.widths.now) ≡ drop at c.args.widths.now = λ at. take_all (length widths - at) (drop at widths) (rw length-drop (omega arith)) in
-    let left-fills : FillsOwn (characters (patterns_of c.args.sets) 4 c.args.count 0 (drop 3 c.args.widths.now)) (take c.args.count c.args.values.now) c.half-left.result c.half-left.new.values = let long : length places ≡ n = simp length-take (omega arith) in
-    own_same _ _ _ _ _ (ap₂ (λ (k : ℕ) (part : List ℕ). characters patterns 4 k 0 part) (sym long) (sym (onward 3))) c.half-left.ensures in let long : length places ≡ n = simp length-take (omega arith) in
-    scan_filled patterns 4 n 0 (drop 3 widths) left places _ c.in-Done.field-0 left-fills c.in-Done.is long
+    let long = length-take-le n c.args.values.now (omega (arith, c.requires.values_len)) in
+    let fills = half-fills patterns n 0 3 widths long c.half-left.ensures in
+    scan_filled patterns 4 n 0 (drop 3 widths) c.half-left.new.values _ _ c.in-Done.field-0 fills c.in-Done.is long
 
 right_long : (c : After-half-right) → length (take (length (c.half-left.new.values ++ drop c.args.count c.args.values.now) - c.args.count) (drop c.args.count (c.half-left.new.values ++ drop c.args.count c.args.values.now))) ≡ c.args.count
 right_long c =
@@ -84,10 +75,7 @@ right_long c =
 right-fills : (c : After-half-right) → FillsOwn (characters set_c 4 c.args.count c.args.count (drop (3 + 4 * c.args.count + 5) c.args.widths.now)) (take (length (c.half-left.new.values ++ drop c.args.count c.args.values.now) - c.args.count) (drop c.args.count (c.half-left.new.values ++ drop c.args.count c.args.values.now))) c.half-right.result c.half-right.new.values
 right-fills c =
     let n = c.args.count in
-    let widths = c.args.widths.now in
-    let onward : (at : ℕ) → take (length c.args.widths.now - at) (drop at c.args.widths.now) ≡ drop at c.args.widths.now = λ at. take_all (length widths - at) (drop at widths) (rw length-drop (omega arith)) in
-    let right_at = 3 + 4 * n + 5 in
-    own_same _ _ _ _ _ (ap₂ (λ (k : ℕ) (part : List ℕ). characters set_c 4 k n part) (sym (right_long c)) (sym (onward right_at))) c.half-right.ensures
+    half-fills set_c n n (3 + 4 * n + 5) c.args.widths.now (right_long c) c.half-right.ensures
 
 pub returns-in_default-right : goal.returns-in_default-right
 unfolding halves_in

@@ -18,7 +18,7 @@ use Rattle.code128.proofs.PatternLaws.{patterns_are}
 use Rattle.gs1_128.specs.Symbol.{starts}
 use Rattle.gs1_128.specs.Scanning.{guarded, start_in}
 use Rattle.gs1_128.proofs.TableLaws.{value_start, no_start}
-use Rattle.gs1_128.proofs.scanning.start_of.Goals.{After-equal, In-Value}
+use Rattle.gs1_128.proofs.scanning.start_of.Goals.{After-equal}
 use Rattle.gs1_128.proofs.scanning.start_of.Goals as goal
 
 module _ (widths : List ℕ) where
@@ -47,25 +47,19 @@ returns-in_default c =
     let none = value_of_nothing patterns six (sym c.in_default.is ∙ c.value_of-found.ensures) in
     sym (ap answered (no-start-there widths (omega (arith, none, patterns_are, value_start six (omega (arith, none, patterns_are))))))
 
-found : (c : In-Value) → (value_in patterns (take 6 c.args.widths.now) ≡ c.in-Value.start) × (c.in-Value.start < length patterns)
-found c =
-    let widths = c.args.widths.now in
-    let six = take 6 widths in
-    let start = c.in-Value.start in
-    value_of_match patterns six start (sym c.in-Value.is ∙ c.value_of-found.ensures)
-
 pub returns-then-start-lt-LEAST_START : goal.returns-then-start-lt-LEAST_START
 returns-then-start-lt-LEAST_START c =
     let widths = c.args.widths.now in
     let six = take 6 widths in
-    sym (ap answered (no-start-there widths (no_start six (omega (arith, (found (goal.at.returns-then-start-lt-LEAST_START c).In-Value).0)))))
+    let found = value_of_match patterns six c.in-Value.start (sym c.in-Value.is ∙ c.value_of-found.ensures) in
+    sym (ap answered (no-start-there widths (no_start six (omega (arith, found.0)))))
 
 is-start : (c : After-equal) → (c.in-Value.start ≡ 103 + front c.args.widths.now) × (front c.args.widths.now < 3)
 is-start c =
     let widths = c.args.widths.now in
     let six = take 6 widths in
     let start = c.in-Value.start in
-    let found : (value_in patterns (take 6 c.args.widths.now) ≡ c.in-Value.start) × (c.in-Value.start < length patterns) = value_of_match patterns six start (sym c.in-Value.is ∙ c.value_of-found.ensures) in
+    let found = value_of_match patterns six start (sym c.in-Value.is ∙ c.value_of-found.ensures) in
     omega (arith, c.if-start-lt-LEAST_START.false, found, patterns_are, value_start six (omega (arith, found.0, c.if-start-lt-LEAST_START.false)))
 
 ends : (c : After-equal) → c.equal.result ≡ same (back c.args.widths.now) stop
