@@ -26,11 +26,6 @@ whole c =
     let line = c.args.line.now in
     puts_front _ _ _ _ c.message_in-end.ensures.puts ∙ take_all 4096 (message_of line) (rw length-map (omega arith))
 
-long : (c : After-message_in-end) → length (take c.message_in-end.result c.message_in-end.new.message) ≡ length c.args.line.now
-long c =
-    let line = c.args.line.now in
-    ap length (whole c) ∙ length-map line _
-
 pub returns : goal.returns
 unfolding answer_to
 returns c =

@@ -6,7 +6,6 @@ use mathlib.Core.List.{List, map}
 use native.Mathlib.Omega.{arith}
 use lib.ListN.{length, take, length-map, length-take, length-set}
 use lib.Seq.{take_at, take_all}
-use Rattle.laws.specs.Below.{Below}
 use Rattle.laws.proofs.Copying.{mapped_more}
 use Rattle.refusal.specs.Fills.{answer_of}
 use Rattle.refusal.proofs.FillsLaws.{fills_same}

@@ -13,8 +13,7 @@ use Rattle.laws.proofs.FirstLaws.{pass_take}
 use Rattle.laws.proofs.Mapped.{take_map}
 use Rattle.refusal.specs.declared.Answer.TheVariants.{Done, Refused}
 use Rattle.refusal.specs.declared.Refusal.TheVariants.{Character}
-use Rattle.refusal.specs.Outcome.{made}
-use Rattle.digits.specs.Digit.{is_digit, value_of, digits_of}
+use Rattle.digits.specs.Digit.{is_digit, value_of}
 use Rattle.digits.specs.Check.{weight_at, is_right, right_number}
 use Rattle.digits.proofs.DigitLaws.{digit_at, all_digits, digits_made, digits_refused}
 use Rattle.digits.proofs.right_number.Goals.{After-value_of, Else-place-count}
@@ -54,18 +53,11 @@ value_of-requires c =
     let n = c.args.count in
     (digit_at number (all (goal.at.value_of-requires c).Else-place-count) (n - 1) (omega arith)).0
 
-made-digits : (c : After-value_of) → digits_of c.args.number.now ≡ made (map value_of c.args.number.now)
-made-digits c =
-    let number = c.args.number.now in
-    let all : first_not is_digit c.args.number.now ≡ length c.args.number.now = all_digits number (omega (arith, c.first_other-place.ensures)) in
-    digits_made number all
-
 tested : (c : After-value_of) → is_right (map value_of c.args.number.now) ≡ eqb ((c.weighed_sum.result + c.value_of.result) % 10) 0
 tested c =
     let number = c.args.number.now in
     let n = c.args.count in
-    let counted : length c.args.number.now ≡ c.args.count = c.if-number-count.false in
-    right-sum number n counted
+    right-sum number n c.if-number-count.false
     ∙ sym (ap₂ (λ (sum last : ℕ). eqb ((sum + last) % 10) 0) c.weighed_sum.ensures.value c.value_of.ensures)
 
 pub overflow_add-sum : goal.overflow_add-sum
@@ -76,16 +68,18 @@ overflow_add-sum c =
 pub returns-then-sum-eq0 : goal.returns-then-sum-eq0
 unfolding right_number
 returns-then-sum-eq0 c =
+    let before = (goal.at.returns-then-sum-eq0 c).Else-place-count in
     let there = (goal.at.returns-then-sum-eq0 c).After-value_of in
     let number = c.args.number.now in
     let same = c.if-number-count.false in
-    simp (eq-eqb _ _ same, made-digits there, tested there, eq-eqb _ 0 c.if-sum-eq0.true) (ap Done (sym same ∙ sym (length-map number value_of)))
+    simp (eq-eqb _ _ same, digits_made number (all before), tested there, eq-eqb _ 0 c.if-sum-eq0.true) (ap Done (sym same ∙ sym (length-map number value_of)))
 
 pub returns-else-sum-eq0 : goal.returns-else-sum-eq0
 unfolding right_number
 returns-else-sum-eq0 c =
+    let before = (goal.at.returns-else-sum-eq0 c).Else-place-count in
     let there = (goal.at.returns-else-sum-eq0 c).After-value_of in
-    simp (eq-eqb _ _ c.if-number-count.false, made-digits there, tested there, ne_eqb _ 0 c.if-sum-eq0.false)
+    simp (eq-eqb _ _ c.if-number-count.false, digits_made c.args.number.now (all before), tested there, ne_eqb _ 0 c.if-sum-eq0.false)
 
 pub slice_bounds-weighed_sum-end : goal.slice_bounds-weighed_sum-end
 slice_bounds-weighed_sum-end c =

@@ -2,6 +2,7 @@
 use Prim.Native.Nat.{ℕ, ◌+◌, ◌-◌}
 use mathlib.Core.Path.{◌≡◌, sym, ap, ap₂, ◌∙◌}
 use mathlib.Core.Bool.{Bool, true, false, cond}
+use mathlib.Core.List.{List}
 use native.Mathlib.Omega.{arith}
 use lib.ListN.{length, take, drop, length-drop}
 use lib.Seq.{length-take-le, take_all}
@@ -13,19 +14,17 @@ use Rattle.requests.specs.declared.Fault.TheVariants.{Missing}
 use Rattle.requests.specs.Requests.{size_at, word_at}
 use Rattle.requests.specs.Texts.{fault_line}
 use Rattle.calls.specs.Answers.{added_line, add_after}
-use Rattle.calls.proofs.messages.add_data.Goals.{After-add_to, After-word_end-end}
+use Rattle.calls.proofs.messages.add_data.Goals.{After-add_to}
 use Rattle.calls.proofs.messages.add_data.Goals as goal
 
 -- the rule, where its test comes out so
-by-test : (c : After-word_end-end) → (b : Bool) → eqb (0 + size_at c.args.typed.now 0) (length c.args.typed.now) ≡ b → add_after (length c.args.buffer.now) c.args.identifier c.args.typed.now ≡ cond b (fault_line (Missing Message)) (added_line (length c.args.buffer.now) c.args.identifier (word_at c.args.typed.now 0) (drop (0 + size_at c.args.typed.now 0 + 1) c.args.typed.now))
-by-test c b is =
-    let places = length c.args.buffer.now in
-    let typed = c.args.typed.now in
-    ap (λ (t : Bool). cond t (fault_line (Missing Message)) (added_line places c.args.identifier (word_at typed 0) (drop (0 + size_at typed 0 + 1) typed))) is
+by-test : (places identifier : ℕ) (typed : List ℕ) (b : Bool) → eqb (0 + size_at typed 0) (length typed) ≡ b → add_after places identifier typed ≡ cond b (fault_line (Missing Message)) (added_line places identifier (word_at typed 0) (drop (0 + size_at typed 0 + 1) typed))
+by-test places identifier typed b is =
+    ap (λ (t : Bool). cond t (fault_line (Missing Message)) (added_line places identifier (word_at typed 0) (drop (0 + size_at typed 0 + 1) typed))) is
 
 pub returns-then-end-typed : goal.returns-then-end-typed
 returns-then-end-typed c =
-    puts_same _ _ _ _ _ (by-test (goal.at.returns-then-end-typed c).After-word_end-end true (eq-eqb _ _ (sym c.word_end-end.ensures.value ∙ c.if-end-typed.true))) c.put_fault.ensures
+    puts_same _ _ _ _ _ (by-test _ _ _ true (eq-eqb _ _ (sym c.word_end-end.ensures.value ∙ c.if-end-typed.true))) c.put_fault.ensures
 
 size : (c : After-add_to) → size_at c.args.typed.now 0 ≡ c.word_end-end.result
 size c =
@@ -43,8 +42,7 @@ line : (c : After-add_to) → add_after (length c.args.buffer.now) c.args.identi
 line c =
     let places = length c.args.buffer.now in
     let typed = c.args.typed.now in
-    let by-test : (b : Bool) → eqb (0 + size_at c.args.typed.now 0) (length c.args.typed.now) ≡ b → add_after (length c.args.buffer.now) c.args.identifier c.args.typed.now ≡ cond b (fault_line (Missing Message)) (added_line (length c.args.buffer.now) c.args.identifier (word_at c.args.typed.now 0) (drop (0 + size_at c.args.typed.now 0 + 1) c.args.typed.now)) = λ b is. ap (λ (t : Bool). cond t (fault_line (Missing Message)) (added_line places c.args.identifier (word_at typed 0) (drop (0 + size_at typed 0 + 1) typed))) is in
-    by-test false (ne_eqb _ _ (λ whole. c.if-end-typed.false (c.word_end-end.ensures.value ∙ whole)))
+    by-test places c.args.identifier typed false (ne_eqb _ _ (λ whole. c.if-end-typed.false (c.word_end-end.ensures.value ∙ whole)))
     ∙ ap₂ (added_line places c.args.identifier) (ap (λ (n : ℕ). take n typed) (size c)) (message c)
 
 pub returns : goal.returns

@@ -47,22 +47,16 @@ returns-in_default-digit_of c =
     let none : first_of values ≡ 10 = value_of_nothing by_first_digit _ (sym c.in_default-digit_of.is ∙ c.digit_of.ensures) in
     own_refused _ _ _ (Pattern 12) (rw (scanned-halves (goal.at.returns-in_default-digit_of c).After-digit_of, none))
 
-scanned-digits : (c : In-Value) → scanned c.args.widths.now ≡ made (c.in-Value.first ∷ map (λ v. v % 10) c.halves-halves.new.values)
+scanned-digits : (c : In-Value) → halves_in AOrB 6 c.args.widths.now ≡ made c.halves-halves.new.values → scanned c.args.widths.now ≡ made (c.in-Value.first ∷ map (λ v. v % 10) c.halves-halves.new.values)
 unfolding scanned
-scanned-digits c =
+scanned-digits c halves =
     let first = c.in-Value.first in
-    let values = c.halves-halves.new.values in
-    let widths = c.args.widths.now in
-    let scanned-halves : halves_in AOrB 6 c.args.widths.now ≡ made c.halves-halves.new.values = own_made _ _ values _ c.in-Done.field-0 c.in-Done.is c.halves-halves.ensures (λ vs e. (drawn_of_halves AOrB 6 widths vs e).counted) in
     let found = value_of_match by_first_digit _ first (sym c.in-Value.is ∙ c.digit_of.ensures) in
-    rw (scanned-halves, found.0, lt-ltb first 10 found.1)
+    rw (halves, found.0, lt-ltb first 10 found.1)
 
-thirteen : (c : In-Value) → length (c.in-Value.first ∷ map (λ v. v % 10) c.halves-halves.new.values) ≡ 13
-thirteen c =
-    let values = c.halves-halves.new.values in
-    let widths = c.args.widths.now in
-    let scanned-halves : halves_in AOrB 6 c.args.widths.now ≡ made c.halves-halves.new.values = own_made _ _ values _ c.in-Done.field-0 c.in-Done.is c.halves-halves.ensures (λ vs e. (drawn_of_halves AOrB 6 widths vs e).counted) in
-    omega (arith, length-map values (λ v. v % 10), (drawn_of_halves AOrB 6 widths values scanned-halves).counted)
+thirteen : (first : ℕ) (widths values : List ℕ) → halves_in AOrB 6 widths ≡ made values → length (first ∷ map (λ v. v % 10) values) ≡ 13
+thirteen first widths values halves =
+    omega (arith, length-map values (λ v. v % 10), (drawn_of_halves AOrB 6 widths values halves).counted)
 
 list-is : (c : After-digits_of) → (let lent = c.args.digits.now in put 1 (length (set lent 0 c.in-Value.first)) (set lent 0 c.in-Value.first) c.digits_of.new.digits) ≡ (c.in-Value.first ∷ map (λ v. v % 10) c.halves-halves.new.values)
 list-is c =
@@ -71,15 +65,16 @@ list-is c =
 
 pub shape_of-digits : goal.shape_of-digits
 shape_of-digits c =
-    ap length (list-is (goal.at.shape_of-digits c).After-digits_of) ∙ thirteen (goal.at.shape_of-digits c).In-Value ∙ sym c.requires
+    let halves = scanned-halves (goal.at.shape_of-digits c).After-digit_of in
+    ap length (list-is (goal.at.shape_of-digits c).After-digits_of) ∙ thirteen c.in-Value.first _ _ halves ∙ sym c.requires
 
 pub returns : goal.returns
 returns c =
-    let before = (goal.at.returns c).In-Value in
+    let halves = scanned-halves (goal.at.returns c).After-digit_of in
     let there = (goal.at.returns c).After-digits_of in
     let first = c.in-Value.first in
     let list = let lent = c.args.digits.now in put 1 (length (set lent 0 first)) (set lent 0 first) c.digits_of.new.digits in
-    own_filled _ _ list 13 (scanned-digits before ∙ ap made (sym (list-is there))) (ap length (list-is there) ∙ thirteen before) c.requires
+    own_filled _ _ list 13 (scanned-digits (goal.at.returns c).In-Value halves ∙ ap made (sym (list-is there))) (ap length (list-is there) ∙ thirteen first _ _ halves) c.requires
 
 pub slice_bounds-digit_of-end : goal.slice_bounds-digit_of-end
 slice_bounds-digit_of-end c =

@@ -47,14 +47,10 @@ returns-then-not-equal-2 c =
     own_refused _ _ _ Guard (rw (eq-eqb _ _ counted, starts there, stop-compared there ∙ c.if-not-equal-2.true))
 
 -- the pairs are left to scan
-scanning : (c : Else-not-equal-2) → between start stop pairs 10 7 c.args.widths.now ≡ characters pairs 10 7 0 (drop 4 c.args.widths.now)
+scanning : (c : Else-not-equal-2) → same (take 4 c.args.widths.now) start ≡ true → same (drop 74 c.args.widths.now) stop ≡ c.equal-2.result → between start stop pairs 10 7 c.args.widths.now ≡ characters pairs 10 7 0 (drop 4 c.args.widths.now)
 unfolding between
-scanning c =
-    let counted = c.if-widths-ne-WIDTHS.false in
-    let starts : same (take 4 c.args.widths.now) start ≡ true = sym c.equal.ensures ∙ c.if-not-equal.false in
-    let widths = c.args.widths.now in
-    let stop-compared : same (drop 74 c.args.widths.now) stop ≡ c.equal-2.result = sym (c.equal-2.ensures ∙ ap (λ (part : List ℕ). same part stop) (take_all (length widths - 74) (drop 74 widths) (rw length-drop (omega arith)))) in
-    rw (eq-eqb _ _ counted, starts, stop-compared ∙ c.if-not-equal-2.false)
+scanning c starts compared =
+    rw (eq-eqb _ _ c.if-widths-ne-WIDTHS.false, starts, compared ∙ c.if-not-equal-2.false)
 
 pub loop-i-init : goal.loop-i-init
 loop-i-init c =
@@ -74,8 +70,9 @@ returns-in_default c =
     let i = c.loop-i.i in
     let widths = c.args.widths.now in
     let bars = drop 4 widths in
+    let there = (goal.at.returns-in_default c).After-equal-2 in
     own_refused _ _ _ (Pattern i)
-    (scanning (goal.at.returns-in_default c).Else-not-equal-2
+    (scanning (goal.at.returns-in_default c).Else-not-equal-2 (starts there) (stop-compared there)
     ∙ scan_stops pairs 10 7 0 bars c.loop-i.values i (omega arith) c.loop-i.invariant.2 (sym c.in_default.is ∙ answered (goal.at.returns-in_default c).After-pair_value)
     ∙ ap (λ (n : ℕ). refused (Pattern n)) (zero-add i))
 
@@ -95,5 +92,7 @@ returns c =
     let bars = drop 4 widths in
     let loop = c.loop-i in
     let over : loop.i ≡ 7 = omega arith in
+    let there = (goal.at.returns c).After-equal-2 in
+    let scanned = scanning (goal.at.returns c).Else-not-equal-2 (starts there) (stop-compared there) in
     rw over
-    (own_filled _ _ loop.values 7 (scanning (goal.at.returns c).Else-not-equal-2 ∙ scan_ends pairs 10 7 0 bars loop.values (omega arith) (rw over at loop.invariant.2)) (omega arith) (omega arith))
+    (own_filled _ _ loop.values 7 (scanned ∙ scan_ends pairs 10 7 0 bars loop.values (omega arith) (rw over at loop.invariant.2)) (omega arith) (omega arith))

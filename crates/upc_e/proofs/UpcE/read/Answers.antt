@@ -20,7 +20,7 @@ use Rattle.upc_e.specs.Condensing.{expanded, is_own}
 use Rattle.upc_e.specs.UpcE.{symbol, scanned, reads}
 use Rattle.upc_e.proofs.CondensingLaws.{length_of_expanded, expanded_below}
 use Rattle.upc_e.proofs.SymbolLaws.{symbol_of_scan}
-use Rattle.upc_e.proofs.UpcE.read.Goals.{After-expanded-digits, After-lay_values-laid, In-Done-laid}
+use Rattle.upc_e.proofs.UpcE.read.Goals.{After-expanded-digits, In-Done-laid}
 use Rattle.upc_e.proofs.UpcE.read.Goals as goal
 
 pub returns-in_default : goal.returns-in_default
@@ -69,10 +69,9 @@ module _ (short : List ℕ) where
       let parts = must_made (is_right whole) CheckDigit (made (map byte_of whole)) bytes (sym laid-twelve ∙ e) in
       (parts.0, made_same _ _ parts.1)
 
-same-rule : (c : After-lay_values-laid) → number_read (made (expanded c.short_in-scanned.new.short)) 12 ≡ number_read (made c.expanded-digits.result) 12
-same-rule c =
-    let stands-for : c.expanded-digits.result ≡ expanded c.short_in-scanned.new.short = c.expanded-digits.ensures in
-    ap (λ (ds : List ℕ). number_read (made ds) 12) (sym stands-for)
+same-rule : (short digits : List ℕ) → digits ≡ expanded short → number_read (made (expanded short)) 12 ≡ number_read (made digits) 12
+same-rule short digits is =
+    ap (λ (ds : List ℕ). number_read (made ds) 12) (sym is)
 
 pub returns-in_default-laid : goal.returns-in_default-laid
 unfolding reads
@@ -80,17 +79,15 @@ returns-in_default-laid c =
     let short = c.short_in-scanned.new.short in
     let f = c.in_default-laid.field-0 in
     let is = c.in_default-laid.is in
-    let refusal = same-rule (goal.at.returns-in_default-laid c).After-lay_values-laid ∙ refused_of_answer _ f (sym is ∙ c.lay_values-laid.ensures.answer) in
+    let refusal = same-rule short _ c.expanded-digits.ensures ∙ refused_of_answer _ f (sym is ∙ c.lay_values-laid.ensures.answer) in
     fills_passed _ f _ _ is (rw (made-short (goal.at.returns-in_default-laid c).After-expanded-digits).0 (wrong short f _ refusal))
 
 passed : (c : In-Done-laid) → (is_right (expanded c.short_in-scanned.new.short) ≡ true) × (map byte_of (expanded c.short_in-scanned.new.short) ≡ c.lay_values-laid.new.lent)
 passed c =
     let short = c.short_in-scanned.new.short in
     let bytes = c.lay_values-laid.new.lent in
-    let stands-for : c.expanded-digits.result ≡ expanded c.short_in-scanned.new.short = c.expanded-digits.ensures in
-    let same-rule : number_read (made (expanded c.short_in-scanned.new.short)) 12 ≡ number_read (made c.expanded-digits.result) 12 = ap (λ (ds : List ℕ). number_read (made ds) 12) (sym stands-for) in
     let long : (xs : List ℕ) → number_read (made (expanded short)) 12 ≡ made xs → length xs ≡ 12 = λ xs e. ap length (sym (right short xs e).1) ∙ length-map (expanded short) byte_of ∙ length_of_expanded short in
-    right short bytes (own_made _ _ _ _ _ c.in-Done-laid.is (own_of_fills _ _ _ _ _ same-rule c.lay_values-laid.ensures) long)
+    right short bytes (own_made _ _ _ _ _ c.in-Done-laid.is (own_of_fills _ _ _ _ _ (same-rule short _ c.expanded-digits.ensures) c.lay_values-laid.ensures) long)
 
 pub returns-then-not-is_own : goal.returns-then-not-is_own
 unfolding reads

@@ -11,14 +11,13 @@ use Rattle.refusal.proofs.FillsLaws.{laid_whole}
 use Rattle.patterns.specs.Patterns.{drawn}
 use Rattle.parity.specs.Letters.{in_sets}
 use Rattle.parity.proofs.RowLaws as Row
-use Rattle.parity.proofs.RowLaws.{InRow}
 use Rattle.ean_upc.specs.declared.tables.Sets.TheVariants.{AOrB}
 use Rattle.ean_upc.specs.Tables.{guard}
 use Rattle.ean_upc.specs.Halves.{patterns_of}
 use Rattle.ean_upc.proofs.SetLaws.{length_of_half}
 use Rattle.upc_e.specs.UpcE.{end_guard, symbol}
 use Rattle.upc_e.proofs.SymbolLaws.{printed}
-use Rattle.upc_e.proofs.stages.symbol.Goals.{After-guarded_half, After-in_sets-values}
+use Rattle.upc_e.proofs.stages.symbol.Goals.{After-in_sets-values}
 use Rattle.upc_e.proofs.stages.symbol.Goals as goal
 
 pub in_sets-values-requires : goal.in_sets-values-requires
@@ -32,48 +31,25 @@ values_are c =
     let short = c.args.short.now in
     c.in_sets-values.ensures ∙ ap (λ (letters : List ℕ). in_sets letters (take 6 short)) c.row_of-row.ensures
 
-six : (c : After-in_sets-values) → length (Row.values (printed c.args.short.now c.requires.short_len c.requires.below)) ≡ 6
-six c =
-    let short = c.args.short.now in
-    let digits = printed short c.requires.short_len c.requires.below in
-    Row.six_values digits
-
-values_below : (c : After-in_sets-values) → Below 20 (Row.values (printed c.args.short.now c.requires.short_len c.requires.below))
-values_below c =
-    let short = c.args.short.now in
-    let digits = printed short c.requires.short_len c.requires.below in
-    Row.values_below digits
-
 pub guarded_half-requires : goal.guarded_half-requires
 guarded_half-requires c =
-    let there = (goal.at.guarded_half-requires c).After-in_sets-values in
-    rw (values_are there) record { to_len = omega (arith, six there); below = values_below there }
+    let digits = printed c.args.short.now c.requires.short_len c.requires.below in
+    rw (values_are (goal.at.guarded_half-requires c).After-in_sets-values) record { to_len = omega (arith, Row.six_values digits); below = Row.values_below digits }
 
-begun-is : (c : After-guarded_half) → c.guarded_half.new.to ≡ (guard ++ drawn (patterns_of AOrB) (Row.values (printed c.args.short.now c.requires.short_len c.requires.below)))
-begun-is c =
-    let short = c.args.short.now in
-    let values_are : c.in_sets-values.result ≡ (Row.values (printed c.args.short.now c.requires.short_len c.requires.below)) = c.in_sets-values.ensures ∙ ap (λ (letters : List ℕ). in_sets letters (take 6 short)) c.row_of-row.ensures in
-    c.guarded_half.ensures ∙ ap (λ (vs : List ℕ). guard ++ drawn (patterns_of AOrB) vs) values_are
-
-length-begun : (c : After-guarded_half) → length (guard ++ drawn (patterns_of AOrB) (Row.values (printed c.args.short.now c.requires.short_len c.requires.below))) ≡ 27
-length-begun c =
-    let short = c.args.short.now in
-    let digits = printed short c.requires.short_len c.requires.below in
-    let values = Row.values digits in
-    let values_below : Below 20 (Row.values (printed c.args.short.now c.requires.short_len c.requires.below)) = Row.values_below digits in
-    let six : length (Row.values (printed c.args.short.now c.requires.short_len c.requires.below)) ≡ 6 = Row.six_values digits in
-    length-append guard (drawn (patterns_of AOrB) values) ∙ omega (arith, length_of_half AOrB values values_below, six)
+length-begun : (values : List ℕ) → length values ≡ 6 → Below 20 values → length (guard ++ drawn (patterns_of AOrB) values) ≡ 27
+length-begun values six below =
+    length-append guard (drawn (patterns_of AOrB) values) ∙ omega (arith, length_of_half AOrB values below)
 
 pub returns : goal.returns
 unfolding symbol
 returns c =
-    let there = (goal.at.returns c).After-guarded_half in
-    let short = c.args.short.now in
-    let digits = printed short c.requires.short_len c.requires.below in
+    let digits = printed c.args.short.now c.requires.short_len c.requires.below in
     let values = Row.values digits in
     let begun = guard ++ drawn (patterns_of AOrB) values in
+    let begun-is : c.guarded_half.new.to ≡ begun = c.guarded_half.ensures ∙ ap (λ (vs : List ℕ). guard ++ drawn (patterns_of AOrB) vs) (values_are (goal.at.returns c).After-in_sets-values) in
+    let long : length begun ≡ 27 = length-begun values (Row.six_values digits) (Row.values_below digits) in
     let blank : List ℕ = replicate 33 0 in
-    let whole : length (begun ++ drop 27 blank) ≡ 33 = simp length-append (omega (arith, length-begun there)) in
+    let whole : length (begun ++ drop 27 blank) ≡ 33 = simp length-append (omega arith) in
     let room : length (take 6 (drop 27 (begun ++ drop 27 blank))) ≡ 6 = simp (length-take, length-drop) (omega arith) in
-    ap₂ (λ (front end : List ℕ). put 27 33 (front ++ drop 27 blank) end) (begun-is there) (laid_whole end_guard _ _ _ c.lay.ensures (rw (begun-is there) room))
-    ∙ rw whole at (last_part blank begun end_guard 27 (length-begun there))
+    ap₂ (λ (front end : List ℕ). put 27 33 (front ++ drop 27 blank) end) begun-is (laid_whole end_guard _ _ _ c.lay.ensures (rw begun-is room))
+    ∙ rw whole at (last_part blank begun end_guard 27 long)
