@@ -3,16 +3,15 @@
 use Prim.Native.Nat.{◌+◌, ◌≤◌}
 use mathlib.Core.Path.{◌≡◌, refl, sym, ap, ◌∙◌}
 use mathlib.Core.Bool.{false}
-use mathlib.Core.List.{List, []}
+use mathlib.Core.List.{[]}
 use native.Mathlib.Omega.{arith}
 use lib.ListN.{length}
 use Rattle.refusal.specs.Outcome.{made}
-use Rattle.elements.specs.declared.Element.{Element}
 use Rattle.elements.specs.Found.{found_of}
-use Rattle.elements.specs.Strings.{string_at, parsed}
+use Rattle.elements.specs.Strings.{string_at}
 use Rattle.elements.proofs.StringLaws.{next_within}
 use Rattle.elements.proofs.CountLaws.{found_string, found_refused}
-use Rattle.elements.proofs.WalkLaws.{from_start, Left, never_refused, left_here, left_last, left_more}
+use Rattle.elements.proofs.WalkLaws.{from_start, never_refused, left_here, left_last, left_more}
 use Rattle.elements.proofs.sought.Goals.{At-loop-element, In-String}
 use Rattle.elements.proofs.sought.Goals as goal
 
