@@ -1,9 +1,9 @@
 -- What adding doesn't look at: the buffer past the message so far, and by how much a number is too large for an identifier.
+use Rattle.std.specs.Prelude.{None}
 use Prim.Native.Nat.{ℕ, ◌≤◌, min}
 use mathlib.Core.Path.{◌≡◌, refl, ap, ap₂}
 use mathlib.Core.List.{List}
 use mathlib.Core.Bool.{◌&&◌}
-use mathlib.Core.Option.{none}
 use native.Mathlib.Decide.{dec_le}
 use native.Mathlib.Omega.{arith}
 use lib.ListN.{length, take}
@@ -24,7 +24,7 @@ adds_by_front buffer other count identifier content long front =
     ap₂ (λ (room : ℕ) (old : List ℕ). must (leb count 48 && leb count room) Count >> (added old identifier content >>= λ message. laying message room)) long front
 
 -- of two numbers that are no identifiers, each is refused as the other is
-added_unlisted : (old : List ℕ) (x y : ℕ) (content : List ℕ) → kind_of x ≡ none → kind_of y ≡ none → added old x content ≡ added old y content
+added_unlisted : (old : List ℕ) (x y : ℕ) (content : List ℕ) → kind_of x ≡ None → kind_of y ≡ None → added old x content ≡ added old y content
 unfolding added
 added_unlisted old x y content no-x no-y = go (sofar old) refl
   where

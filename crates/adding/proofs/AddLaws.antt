@@ -1,10 +1,10 @@
 -- Adding to a message, line by line: what closes the message so far is what closes its last string, one separator or nothing, so the
 -- tests that a call makes of lengths are the rule's, and what it then writes is the rule's message.
+use Rattle.std.specs.Prelude.{Option, Some, None}
 use Prim.Native.Nat.{ℕ, ◌+◌, ◌≤◌, ◌<◌}
 use mathlib.Core.Path.{◌≡◌, refl, sym, ap, ap₂, ◌∙◌, subst}
 use mathlib.Core.Bool.{Bool, true, false, cond, not, ◌||◌}
 use mathlib.Core.List.{List, [], ◌∷◌, ◌++◌, map}
-use mathlib.Core.Option.{Option, some, none}
 use native.Mathlib.Omega.{arith}
 use lib.ListN.{length, take, drop, length-append, length-take}
 use lib.Seq.{take_at, drop-append-add, drop-drop}
@@ -86,8 +86,8 @@ closing_take x = go (kind_of x)
     either false = refl
 
     go : (o : Option Kind) → closing_of o ≡ take (length (closing_of o)) (separator ∷ [])
-    go none = refl
-    go (some kind) = either kind.predefined
+    go None = refl
+    go (Some kind) = either kind.predefined
 
 closed_take : (strings : List Element) → closed strings ≡ take (length (closed strings)) (separator ∷ [])
 closed_take [] = refl
@@ -116,11 +116,11 @@ module _ (old : List ℕ) (x : ℕ) (content : List ℕ) where
   judged_old f e = rw e
 
   module _ (strings : List Element) (right : sofar old ≡ made strings) where
-    pub judged_unlisted : kind_of x ≡ none → judged old x content ≡ refused (Identifier (length old))
+    pub judged_unlisted : kind_of x ≡ None → judged old x content ≡ refused (Identifier (length old))
     unfolding judged
     judged_unlisted e = rw (right, e)
 
-    module _ (kind : Kind) (listed : kind_of x ≡ some kind) where
+    module _ (kind : Kind) (listed : kind_of x ≡ Some kind) where
       pub judged_wrong : right_data kind content ≡ false → judged old x content ≡ refused (Data (length old))
       unfolding judged
       judged_wrong e = rw (right, listed, e)
@@ -148,7 +148,7 @@ module _ (old : List ℕ) (x : ℕ) (content : List ℕ) where
     pub strings : List Element
     pub so_far : sofar old ≡ made strings
     pub kind : Kind
-    pub listed : kind_of x ≡ some kind
+    pub listed : kind_of x ≡ Some kind
     pub right : right_data kind content ≡ true
     pub new : among (map (λ (s : Element). s.identifier) strings) x ≡ false
     pub last : (must (leb (length (old ++ closed strings ++ spelled x ++ content)) 48) Sequence >> made (closed strings)) ≡ o

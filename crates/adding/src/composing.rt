@@ -4,7 +4,7 @@ ghost use Rattle.refusal.specs.Fills.{Fills, laying};
 ghost use Rattle.character_set_82.specs.Characters.{separator};
 ghost use Rattle.identifiers.specs.Identifiers.{spelled};
 
-use refusal::{Answer, Refusal};
+use refusal::Refusal;
 
 // Writes what stands between and the new string after so many bytes of a buffer: the new length; or refusal 12.
 pub fn compose(
@@ -13,7 +13,7 @@ pub fn compose(
     closing: usize,
     identifier: usize,
     content: &[u8],
-) -> Answer
+) -> Result<usize, Refusal>
     requires count_in_bounds { count ≤ length buffer.old }
     requires closing_bound { closing ≤ 1 }
     requires identifier_bound { identifier < 10000 }
@@ -23,13 +23,13 @@ pub fn compose(
     let size = identifiers::digits_of(identifier);
     let end = count + closing + size + content.len();
     if buffer.len() < end {
-        return Answer::Refused(Refusal::Room);
+        return Err(Refusal::Room);
     }
     let between = [character_set_82::SEPARATOR];
     let digits = identifiers::spelling(identifier);
     let mut at = put(&between[..closing], buffer, count);
     at = put(&digits[..size], buffer, at);
-    Answer::Done(put(content, buffer, at))
+    Ok(put(content, buffer, at))
 }
 
 // Writes some bytes from a place of a list on, and answers where they end.
@@ -39,6 +39,6 @@ fn put(bytes: &[u8], to: &mut [u8], at: usize) -> usize
     ensures to_after { to.new ≡ take at to.old ++ bytes.now ++ drop result to.old }
 {
     let end = at + bytes.len();
-    refusal::lay(bytes, &mut to[at..end]);
+    to[at..end].copy_from_slice(bytes);
     end
 }

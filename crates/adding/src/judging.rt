@@ -6,69 +6,57 @@ ghost use Rattle.elements.specs.declared.Element.{Element};
 ghost use Rattle.elements.specs.Messages.{closing};
 ghost use Rattle.adding.specs.Adding.{sofar, unused_in, judged};
 
-use elements::Found;
-use identifiers::{Row, contents};
-use refusal::{Answer, Refusal};
+use elements::Element;
+use identifiers::contents;
+use refusal::Refusal;
 
 // How many bytes stand between the message so far and the new string; or refusal 2, 9, 10, 11 or 8.
-pub fn judge(old: &[u8], identifier: usize, content: &[u8]) -> Answer
+pub fn judge(old: &[u8], identifier: usize, content: &[u8]) -> Result<usize, Refusal>
     requires { length old.now ≤ 48 }
     ensures { result ≡ answer_of (judged old.now identifier content.now) }
 {
-    let tested = test_old(old);
-    let Answer::Done(_) = tested else {
-        return tested;
-    };
-    let Row::Listed(_, kind) = identifiers::row_of(identifier) else {
-        return Answer::Refused(Refusal::Identifier(old.len()));
-    };
+    test_old(old)?;
+    let (_, kind) = identifiers::row_of(identifier).ok_or(Refusal::Identifier(old.len()))?;
     if !contents::right_data(kind, content) {
-        return Answer::Refused(Refusal::Data(old.len()));
+        return Err(Refusal::Data(old.len()));
     }
-    let unused = closing_of(old, identifier);
-    let Answer::Done(closing) = unused else {
-        return unused;
-    };
+    let closing = closing_of(old, identifier)?;
     let end = old.len() + closing + identifiers::digits_of(identifier);
     if 48 < end + content.len() {
-        return Answer::Refused(Refusal::Sequence);
+        return Err(Refusal::Sequence);
     }
-    Answer::Done(closing)
+    Ok(closing)
 }
 
 // The test of the message so far; nothing is tested in a fresh one.
-fn test_old(old: &[u8]) -> Answer
+fn test_old(old: &[u8]) -> Result<usize, Refusal>
     ensures { result ≡ answer_of (sofar old.now) }
 {
-    if old.len() < 1 {
-        return Answer::Done(0);
+    if old.is_empty() {
+        return Ok(0);
     }
     elements::test(old)
 }
 
 // What stands after the last string of a message that is right, unless one of its strings has the identifier: refusal 11.
-fn closing_of(old: &[u8], identifier: usize) -> Answer
+fn closing_of(old: &[u8], identifier: usize) -> Result<usize, Refusal>
     ensures { (strings : List Element) → sofar old.now ≡ made strings → result ≡ answer_of (unused_in strings identifier (length old.now)) }
 {
-    if old.len() < 1 {
-        return Answer::Done(0);
+    if old.is_empty() {
+        return Ok(0);
     }
-    let found = elements::sought(old, identifier);
-    let element = match found {
-        Found::String(element) => element,
-        Found::Refused(refusal) => return Answer::Refused(refusal),
-    };
+    let element = elements::sought(old, identifier)?;
     if element.identifier == identifier {
-        return Answer::Refused(Refusal::Repeated(old.len()));
+        return Err(Refusal::Repeated(old.len()));
     }
-    Answer::Done(closing_after(element.identifier))
+    Ok(closing_after(element.identifier))
 }
 
 // How many bytes stand after a string that another one follows.
 fn closing_after(identifier: usize) -> usize
     ensures { result ≡ length (closing identifier) }
 {
-    let Row::Listed(_, kind) = identifiers::row_of(identifier) else {
+    let Some((_, kind)) = identifiers::row_of(identifier) else {
         return 0;
     };
     if kind.predefined { 0 } else { 1 }

@@ -4,25 +4,24 @@
 ghost use Rattle.refusal.specs.Fills.{Fills};
 ghost use Rattle.adding.specs.Adding.{adds};
 
-use refusal::{Answer, Refusal};
+use refusal::Refusal;
 
 mod composing;
 mod judging;
 
 // Adds an element string to the message of so many bytes in a buffer: the new length; or refusal 1, 2, 9, 10, 11, 8 or 12, tested in
 // that order.
-pub fn add(buffer: &mut [u8], count: usize, identifier: usize, content: &[u8]) -> Answer
+pub fn add(
+    buffer: &mut [u8],
+    count: usize,
+    identifier: usize,
+    content: &[u8],
+) -> Result<usize, Refusal>
     ensures { Fills (adds buffer.old count identifier content.now) buffer.old result buffer.new }
 {
-    if 48 < count {
-        return Answer::Refused(Refusal::Count);
+    if 48 < count || buffer.len() < count {
+        return Err(Refusal::Count);
     }
-    if buffer.len() < count {
-        return Answer::Refused(Refusal::Count);
-    }
-    let judged = judging::judge(&buffer[..count], identifier, content);
-    let Answer::Done(closing) = judged else {
-        return judged;
-    };
+    let closing = judging::judge(&buffer[..count], identifier, content)?;
     composing::compose(buffer, count, closing, identifier, content)
 }

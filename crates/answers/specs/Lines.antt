@@ -1,9 +1,8 @@
 -- Document 01, "Examples on each side": a line of answer is "0, the count of widths, the widths run together; or the refusal and its place, one
 -- space apart". A list of bytes is shown as it is typed, `^` for the separator. Every line ends in byte 10.
-use Rattle.std.specs.Prelude.{ℕ, ◌≤◌, List, [], ◌∷◌, ◌++◌, length, take}
+use Rattle.std.specs.Prelude.{ℕ, ◌≤◌, List, [], ◌∷◌, ◌++◌, length, take, Result, Ok, Err}
 use Rattle.laws.specs.Below.{Below}
-use Rattle.refusal.specs.declared.Answer.{Answer}
-use Rattle.refusal.specs.declared.Answer.TheVariants.{Done, Refused}
+use Rattle.refusal.specs.declared.Refusal.{Refusal}
 use Rattle.refusal.specs.Outcome.{Outcome, made, refused}
 use Rattle.refusal.specs.Numbers.{number_of, place_of}
 use Rattle.text.specs.Decimal.{apart}
@@ -25,9 +24,9 @@ abbrev pub numbers_line : ℕ → ℕ → List ℕ
 numbers_line first second = apart first second ++ (10 ∷ [])
 
 -- the line for what a call answered
-abbrev pub answer_line : Answer → List ℕ
-answer_line (Done n) = numbers_line 0 n
-answer_line (Refused f) = numbers_line (number_of f) (place_of f)
+abbrev pub answer_line : Result ℕ Refusal → List ℕ
+answer_line (Ok n) = numbers_line 0 n
+answer_line (Err f) = numbers_line (number_of f) (place_of f)
 
 -- the line for a list, with some text between the count and the list
 abbrev pub counted_line : Form → List ℕ → List ℕ → List ℕ
@@ -36,17 +35,17 @@ counted_line form between list = apart 0 (length list) ++ between ++ shown_as fo
 -- the line for the list that a rule makes
 abbrev pub line_of : Form → List ℕ → Outcome (List ℕ) → List ℕ
 line_of form between (made list) = counted_line form between list
-line_of form between (refused f) = answer_line (Refused f)
+line_of form between (refused f) = answer_line (Err f)
 
 -- with one space between, as nearly every line has it
 abbrev pub list_line : Form → Outcome (List ℕ) → List ℕ
 list_line form = line_of form (32 ∷ [])
 
 -- the same for what a call answered, and left at the front of a lent list
-abbrev pub made_line : Form → List ℕ → Answer → List ℕ → List ℕ
-made_line form between (Done n) list = counted_line form between (take n list)
-made_line form between (Refused f) list = answer_line (Refused f)
+abbrev pub made_line : Form → List ℕ → Result ℕ Refusal → List ℕ → List ℕ
+made_line form between (Ok n) list = counted_line form between (take n list)
+made_line form between (Err f) list = answer_line (Err f)
 
-abbrev pub Made : Form → Answer → List ℕ → Type 0
-Made form (Done n) list = (n ≤ length list) × Shows form (take n list)
-Made form (Refused f) list = Unit
+abbrev pub Made : Form → Result ℕ Refusal → List ℕ → Type 0
+Made form (Ok n) list = (n ≤ length list) × Shows form (take n list)
+Made form (Err f) list = Unit

@@ -6,7 +6,7 @@ ghost use Rattle.std.specs.Prelude.{◌≡◌, ◌+◌, ◌≤◌, length};
 ghost use Rattle.text.specs.Puts.{Puts};
 ghost use Rattle.answers.specs.Lines.{shown_as, Shows, Made, numbers_line, answer_line, counted_line, made_line};
 
-use refusal::Answer;
+use refusal::Refusal;
 
 // How a list is shown: a digit for each width, or the bytes of a number or a message, with `^` for a separator.
 #[derive(Clone, Copy)]
@@ -16,23 +16,29 @@ pub enum Form {
 }
 
 // A line for the number that a call made, or its refusal.
-pub fn put_answer(answer: Answer, out: &mut [u8]) -> usize
+pub fn put_answer(answer: Result<usize, Refusal>, out: &mut [u8]) -> usize
     requires { 42 ≤ length out.old }
     ensures { Puts (answer_line answer) out.old result out.new }
 {
     match answer {
-        Answer::Done(n) => put_numbers(0, n, out),
-        Answer::Refused(refusal) => put_numbers(refusal.number(), refusal.place(), out),
+        Ok(n) => put_numbers(0, n, out),
+        Err(refusal) => put_numbers(refusal.number(), refusal.place(), out),
     }
 }
 
 // A line for the list that a call made at the front of `list`, or its refusal.
-pub fn put_made(answer: Answer, form: Form, between: &[u8], list: &[u8], out: &mut [u8]) -> usize
+pub fn put_made(
+    answer: Result<usize, Refusal>,
+    form: Form,
+    between: &[u8],
+    list: &[u8],
+    out: &mut [u8],
+) -> usize
     requires made { Made form answer list.now }
     requires between_in_bounds { length list.now + length between.now + 42 ≤ length out.old }
     ensures { Puts (made_line form between.now answer list.now) out.old result out.new }
 {
-    let Answer::Done(n) = answer else {
+    let Ok(n) = answer else {
         return put_answer(answer, out);
     };
     put_counted(form, between, &list[..n], out)

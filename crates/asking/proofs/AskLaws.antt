@@ -65,6 +65,9 @@ module _ (message : List ℕ) (x : ℕ) where
   unfolding asked
   asked_named strings e = rw e
 
+  pub asked_sought : (strings : List Element) → tested message ≡ made strings → asked message x ≡ (sought x strings >>= checked x)
+  asked_sought strings e = asked_named strings e ∙ named_sought x strings
+
 -- a string that was found stands at a place of the message
 pub record Stands (message : List ℕ) (string : Element) : Type 0 where
   pub place : ℕ

@@ -16,9 +16,9 @@ use Rattle.gs1_128.specs.Rules.{writes}
 use Rattle.text.specs.Decimal.{decimal_in, decimal_of}
 use Rattle.laws.specs.Text.{as_bytes}
 use Rattle.bench.specs.Line.{answers}
-use Rattle.bench.specs.Block.{answers_to}
+use Rattle.serving.specs.Block.{answers_to}
 
-pub example : answers_to (as_bytes "2012" ∷ as_bytes "10A" ∷ as_bytes "10" ∷ [])
+pub example : answers_to answers (as_bytes "2012" ∷ as_bytes "10A" ∷ as_bytes "10" ∷ [])
     ≡ as_bytes "0 37 2112324111312212311122324131112331112\n"
     ++ as_bytes "0 43 2112144111311232211231221113231322122331112\n"
     ++ as_bytes "10 0\n"

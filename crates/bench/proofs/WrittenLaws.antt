@@ -1,15 +1,11 @@
 -- What the writer's rule comes to in a list of 313 places or more: the same in each, and never refusal 12. A message of more than 48 bytes is
 -- refused for its count, so its first 49 bytes decide.
-use Prim.Native.Nat.{ℕ, ◌≤◌, ◌<◌}
+use Prim.Native.Nat.{ℕ, ◌≤◌}
 use mathlib.Core.Path.{◌≡◌, refl, sym, ◌∙◌}
-use mathlib.Core.List.{List}
-use native.Mathlib.Decide.{dec_le}
+use mathlib.Core.List.{List, [], append-nil}
 use native.Mathlib.Omega.{arith}
 use lib.ListN.{length, take}
-use lib.Seq.{take_all, length-take-le}
-use borrow.Author.Tests.{le-leb, lt-leb}
 use Rattle.refusal.specs.declared.Refusal.{Refusal}
-use Rattle.refusal.specs.declared.Refusal.TheVariants.{Count}
 use Rattle.refusal.specs.Outcome.{Outcome, made, refused}
 use Rattle.refusal.proofs.OutcomeLaws.{made_not_refused}
 use Rattle.elements.specs.declared.Element.{Element}
@@ -18,6 +14,8 @@ use Rattle.elements.proofs.Theorems.{strings_of_accepted}
 use Rattle.gs1_128.specs.Rules.{best_symbol, writes}
 use Rattle.gs1_128.proofs.WrittenLaws.{write_refused}
 use Rattle.gs1_128.proofs.ComesBack.{best_room, writes_best}
+use Rattle.serving.proofs.Theorems.{held_as_whole}
+use Rattle.bench.specs.LongLines.{written_over}
 
 -- a message that passes its test is drawn in any list of 313 places or more
 written_made : (message : List ℕ) (strings : List Element) (room : ℕ) → tested message ≡ made strings → 313 ≤ room → writes message room ≡ made (best_symbol message)
@@ -40,16 +38,7 @@ write_refused_by_test message room f h e = go (tested message) refl
     go (made strings) t = absurd (made_not_refused _ f (sym (written_made message strings room t h) ∙ e))
     go (refused g) t = let same = sym (write_refused message room g t) ∙ e in cc
 
--- more than 48 bytes are refused for their count
-pub written_over : (message : List ℕ) (room : ℕ) → 48 < length message → writes message room ≡ refused Count
-unfolding tested
-written_over message room h = write_refused message room Count (simp (le-leb 1 (length message) (omega arith), lt-leb (length message) 48 h))
-
 pub written_cut : (message : List ℕ) (room : ℕ) → writes (take 49 message) room ≡ writes message room
-written_cut message room = go (dec_le (length message) 49)
-  where
-    go : Dec (length message ≤ 49) → writes (take 49 message) room ≡ writes message room
-    go (yes few) = rw (take_all 49 message few)
-    go (no many) =
-        written_over (take 49 message) room (omega (arith, length-take-le 49 message (omega arith)))
-        ∙ sym (written_over message room (omega arith))
+written_cut message room =
+    let alike = λ (one other : List ℕ) (h : 49 ≤ length one) (k : 49 ≤ length other). written_over one room h ∙ sym (written_over other room k) in
+    simp append-nil at (held_as_whole (λ (m : List ℕ). writes m room) 49 alike message [])

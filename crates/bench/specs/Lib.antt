@@ -1,10 +1,8 @@
 -- The bench program's lines.
 --
---   answers             Line    the line that answers a line
---   longest_answer      Line    room for any answer
---   IsLine, AreLines    Block   bytes of a line, none of them a byte 10
---   ended, answers_to   Block   lines with the byte 10 that ends each, and their answers
---   Answered            Block   what has been done with the lines of a block
---   Cut, Held           Block   the lines that end in a block, and what is kept of the one that doesn't
+--   answers             Line        the line that answers a line
+--   longest_answer      Line        room for any answer
+--   long_line           LongLines   lines of more than 48 bytes
+--   long_lines_alike    LongLines   the law of `Answerer`
 pub mod Line
-pub mod Block
+pub mod LongLines

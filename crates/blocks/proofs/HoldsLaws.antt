@@ -2,11 +2,13 @@
 use Prim.Native.Nat.{ℕ, ◌+◌, ◌-◌, ◌≤◌, min}
 use mathlib.Core.Path.{◌≡◌, sym, ap, ◌∙◌}
 use mathlib.Core.List.{List, ◌++◌}
+use native.Mathlib.Nat.{zero-add}
 use native.Mathlib.Decide.{dec_le}
 use native.Mathlib.Omega.{arith}
 use lib.ListN.{length, take, drop, length-take, length-drop, length-append}
 use lib.Seq.{length-take-le, take_all, take_at, drop_at, take-add, take-take}
 use borrow.Rule.Slice.PartMut.{put_mid, take_put}
+use Rattle.std.specs.List.{copy_within}
 use Rattle.blocks.specs.Blocks.{Holds}
 
 module _ (input : List ℕ) (filled start most held : ℕ)
@@ -27,8 +29,10 @@ module _ (input : List ℕ) (filled start most held : ℕ)
       let whole : length left ≡ filled - start = rw left_of_input (simp (length-take, length-drop) (omega arith)) in
       take_all held left (omega arith) ∙ sym (take_all most left (omega arith))
 
-  pub holds_after : (kept : List ℕ) → kept ≡ take held (drop start input) ++ drop held input → (read : List ℕ) → Holds (take filled input) start most held (put_mid held (length kept - held) kept read)
-  holds_after kept is read =
+  pub holds_after : (kept : List ℕ) → kept ≡ copy_within input start (start + held) 0 → (read : List ℕ) → Holds (take filled input) start most held (put_mid held (length kept - held) kept read)
+  holds_after kept copied read =
+      let moves : start + held - start ≡ held = omega arith in
+      let is : kept ≡ take held (drop start input) ++ drop held input = rw (moves, zero-add) at copied in
       let moved : length (take held (drop start input)) ≡ held = length-take-le held (drop start input) (rw length-drop (omega arith)) in
       let enough : held ≤ length kept = omega (arith, simp length-append at (ap length is)) in
       record {

@@ -3,7 +3,7 @@
 // What follows the last line that ends in a block is held at the front of the input while the next block is read after it.
 #![tactic(auto)]
 
-ghost use Rattle.std.specs.Prelude.{◌≡◌, ◌++◌, ◌+◌, ◌≤◌, ◌<◌, min, length, take, drop};
+ghost use Rattle.std.specs.Prelude.{◌≡◌, ◌+◌, ◌≤◌, ◌<◌, length, take};
 ghost use Rattle.blocks.specs.Blocks.{filled, Holds};
 
 use std::io::Read;
@@ -38,8 +38,8 @@ pub fn next(
     ensures holds { Holds (take (filled block) input.old) start most result.held input.new }
     ensures result_in_bounds { (filled result ≤ length input.old) × (result.left < block.left) }
 {
-    let held = lesser(block.held + block.more - start, most);
-    keep(input, start, held);
+    let held = (block.held + block.more - start).min(most);
+    input.copy_within(start..start + held, 0);
     read_after(rt, held, &mut input[held..], block.left - 1)
 }
 
@@ -95,22 +95,4 @@ fn without_more(held: usize) -> Block
         more: 0,
         left: 0,
     }
-}
-
-// Moves `count` bytes from `from` on to the front.
-fn keep(bytes: &mut [u8], from: usize, count: usize)
-    requires { from + count ≤ length bytes.old }
-    ensures { bytes.new ≡ take count (drop from bytes.old) ++ drop count bytes.old }
-{
-    let mut i = 0;
-    while i < count {
-        bytes[i] = bytes[from + i];
-        i += 1;
-    }
-}
-
-fn lesser(a: usize, b: usize) -> usize
-    ensures { result ≡ min a b }
-{
-    if a < b { a } else { b }
 }

@@ -1,14 +1,13 @@
 -- The records of a message: those that a call left at the front of twelve are those that its rule makes, and as text one more stands after the
 -- ones before it.
+use Rattle.std.specs.Prelude.{Result, Ok, Err}
 use Prim.Native.Nat.{ℕ, ◌+◌, ◌≤◌, ◌<◌, min}
 use mathlib.Core.Path.{◌≡◌, refl, sym, ap, ◌∙◌}
 use mathlib.Core.List.{List, [], ◌∷◌, ◌++◌, append_assoc, append-nil}
 use native.Mathlib.Numerals.{add-one}
 use native.Mathlib.Omega.{arith}
 use lib.ListN.{length, get_or, take, length-map}
-use lib.Seq.{take-suc, length-take-le}
-use Rattle.refusal.specs.declared.Answer.{Answer}
-use Rattle.refusal.specs.declared.Answer.TheVariants.{Done, Refused}
+use lib.Seq.{take-suc, take_all, length-take-le}
 use Rattle.refusal.specs.declared.Refusal.{Refusal}
 use Rattle.refusal.specs.Outcome.{made, refused}
 use Rattle.refusal.specs.Fills.{Fills}
@@ -21,8 +20,8 @@ use Rattle.splitting.proofs.SplitStrings.{splits_in_twelve}
 use Rattle.text.specs.Decimal.{apart, record_text}
 use Rattle.calls.specs.Answers.{record_texts}
 
-module _ (message : List ℕ) (places : ℕ) (before : List Record) (r : Answer) (after : List Record) (h : Fills (splits message (min places 12)) before r after) where
-  pub split_front : (n : ℕ) → r ≡ Done n → (splits message places ≡ made (take n after)) × (n ≤ 12)
+module _ (message : List ℕ) (places : ℕ) (before : List Record) (r : Result ℕ Refusal) (after : List Record) (h : Fills (splits message (min places 12)) before r after) where
+  pub split_front : (n : ℕ) → r ≡ Ok n → (splits message places ≡ made (take n after)) × (n ≤ 12)
   split_front n is =
       let o = splits message (min places 12) in
       let front = own_front o before after r n is (own_of_fills o o before after r refl h) in
@@ -30,7 +29,7 @@ module _ (message : List ℕ) (places : ℕ) (before : List Record) (r : Answer)
       let few : n ≤ 12 = omega (arith, s.enough, ap length s.same, length-map s.strings record_of, length-take-le n after front.1) in
       (sym (splits_in_twelve message places) ∙ front.0, few)
 
-  pub split_refused : (f : Refusal) → r ≡ Refused f → splits message places ≡ refused f
+  pub split_refused : (f : Refusal) → r ≡ Err f → splits message places ≡ refused f
   split_refused f is = sym (splits_in_twelve message places) ∙ refused_of_answer (splits message (min places 12)) f (sym is ∙ h.answer)
 
 abbrev text_of : Record → List ℕ
@@ -47,5 +46,5 @@ texts_more front records i d h =
     (sym (append_assoc front (record_texts (take i records)) (text_of (get_or records i d))))
 
 -- after their count, all of them
-pub texts_all : (records : List Record) (count i : ℕ) → count ≡ i → count ≤ length records → apart 0 (length (take count records)) ++ record_texts (take count records) ≡ apart 0 count ++ record_texts (take i records)
-texts_all records count i all h = rw (length-take-le count records h, all)
+pub texts_all : (records : List Record) (i : ℕ) → length records ≤ i → apart 0 (length records) ++ record_texts records ≡ apart 0 (length records) ++ record_texts (take i records)
+texts_all records i h = rw (take_all i records h)

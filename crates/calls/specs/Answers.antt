@@ -1,8 +1,7 @@
 -- What the desk prints for a line: what the rule of the call makes of its arguments, or what is wrong with the line. `^` stands for the separator,
 -- going in and coming out.
-use Rattle.std.specs.Prelude.{ℕ, ◌-◌, ◌≤◌, ◌≡◌, cond, List, [], ◌∷◌, ◌++◌, length, take, drop, replicate, leb}
+use Rattle.std.specs.Prelude.{Option, Some, None, ℕ, cond, List, [], ◌∷◌, ◌++◌, length, take, drop, replicate, leb, Err, Result, Ok}
 use Rattle.laws.specs.Text.{as_bytes}
-use Rattle.refusal.specs.declared.Answer.TheVariants.{Refused}
 use Rattle.refusal.specs.Outcome.{Outcome, made, refused}
 use Rattle.refusal.specs.Fills.{answered, answer_of}
 use Rattle.text.specs.Decimal.{apart, record_text}
@@ -21,19 +20,15 @@ use Rattle.asking.specs.Asking.{asked, part_of}
 use Rattle.adding.specs.Adding.{adds}
 use Rattle.answers.specs.declared.Form.TheVariants.{Widths as AsWidths, Bytes as AsBytes}
 use Rattle.answers.specs.Lines.{answer_line, counted_line, list_line}
+use Rattle.requests.specs.declared.Fault.{Fault}
 use Rattle.requests.specs.declared.Argument.TheVariants.{Message, Data, Widths}
 use Rattle.requests.specs.declared.Fault.TheVariants.{Missing, Malformed}
-use Rattle.requests.specs.declared.Leading.{Leading}
-use Rattle.requests.specs.declared.Leading.TheVariants.{Identifier, Wrong as NoIdentifier}
 use Rattle.requests.specs.declared.Request.{Request}
-use Rattle.requests.specs.declared.Request.TheVariants.{Call, Help, Wrong}
-use Rattle.requests.specs.declared.Which.{Which}
-use Rattle.requests.specs.declared.Which.TheVariants.{Only, Any}
+use Rattle.requests.specs.declared.Request.TheVariants.{Call, Help}
 use Rattle.requests.specs.declared.Word.{Word}
 use Rattle.requests.specs.declared.Word.TheVariants.{Digit, Draw, Read, Test, Split, Ask, Add}
 use Rattle.requests.specs.Requests.{request_of, leading_of, follows, word_at}
 use Rattle.requests.specs.Texts.{help_line, fault_line}
-use Rattle.calls.specs.declared.symbol_lines.Part.{Part}
 
 abbrev pub kind_name : Kind → List ℕ
 kind_name Ean13 = as_bytes " ean13 "
@@ -42,27 +37,18 @@ kind_name UpcE = as_bytes " upce "
 kind_name Itf14 = as_bytes " itf14 "
 kind_name Gs1128 = as_bytes " gs1 "
 
--- the names one after the other, and a part of them that is a kind's
-abbrev pub kind_names : List ℕ
-kind_names = as_bytes " ean13 ean8 upce itf14 gs1 "
-
-pub record NameAt (kind : Kind) (part : Part) : Type 0 where
-  pub ordered : part.from ≤ part.to
-  pub within : part.to ≤ 27
-  pub names : take (part.to - part.from) (drop part.from kind_names) ≡ kind_name kind
-
 -- a reading that names its kind
 abbrev pub named_line : Outcome (Kind × List ℕ) → List ℕ
 named_line (made read) = counted_line AsBytes (kind_name read.0) read.1
-named_line (refused f) = answer_line (Refused f)
+named_line (refused f) = answer_line (Err f)
 
-abbrev pub read_line : Which → List ℕ → ℕ → List ℕ
-read_line (Only kind) list places = list_line AsBytes (reads_as kind list places)
-read_line Any list places = named_line (reads list places)
+abbrev pub read_line : Option Kind → List ℕ → ℕ → List ℕ
+read_line (Some kind) list places = list_line AsBytes (reads_as kind list places)
+read_line None list places = named_line (reads list places)
 
-abbrev pub read_typed : Which → Said → ℕ → List ℕ
-read_typed which (widths list) places = read_line which list places
-read_typed which nothing places = fault_line (Malformed Widths)
+abbrev pub read_typed : Option Kind → Said → ℕ → List ℕ
+read_typed kind (widths list) places = read_line kind list places
+read_typed kind nothing places = fault_line (Malformed Widths)
 
 -- the records of a message, each after a space
 abbrev pub record_texts : List Record → List ℕ
@@ -74,7 +60,7 @@ records_line records = apart 0 (length records) ++ record_texts records ++ (10 �
 
 abbrev pub split_line : Outcome (List Record) → List ℕ
 split_line (made records) = records_line records
-split_line (refused f) = answer_line (Refused f)
+split_line (refused f) = answer_line (Err f)
 
 -- the data that a message has been asked for
 abbrev pub data_of : List ℕ → Outcome Element → Outcome (List ℕ)
@@ -84,9 +70,9 @@ data_of message (refused f) = refused f
 abbrev pub asked_line : List ℕ → ℕ → List ℕ
 asked_line message identifier = list_line AsBytes (data_of message (asked message identifier))
 
-abbrev pub asked_by : List ℕ → Leading → List ℕ
-asked_by typed (Identifier identifier from) = asked_line (drop from typed) identifier
-asked_by typed (NoIdentifier fault) = fault_line fault
+abbrev pub asked_by : List ℕ → Result (ℕ × ℕ) Fault → List ℕ
+asked_by typed (Ok (identifier, from)) = asked_line (drop from typed) identifier
+asked_by typed (Err fault) = fault_line fault
 
 abbrev pub ask_typed : List ℕ → List ℕ
 ask_typed typed = asked_by typed (leading_of typed Message)
@@ -103,9 +89,9 @@ abbrev pub add_after : ℕ → ℕ → List ℕ → List ℕ
 add_after places identifier typed =
     follows typed 0 (fault_line (Missing Message)) (λ from. added_line places identifier (word_at typed 0) (drop from typed))
 
-abbrev pub added_by : ℕ → List ℕ → Leading → List ℕ
-added_by places typed (Identifier identifier from) = add_after places identifier (drop from typed)
-added_by places typed (NoIdentifier fault) = fault_line fault
+abbrev pub added_by : ℕ → List ℕ → Result (ℕ × ℕ) Fault → List ℕ
+added_by places typed (Ok (identifier, from)) = add_after places identifier (drop from typed)
+added_by places typed (Err fault) = fault_line fault
 
 abbrev pub add_typed : ℕ → List ℕ → List ℕ
 add_typed places typed = added_by places typed (leading_of typed Data)
@@ -114,16 +100,16 @@ add_typed places typed = added_by places typed (leading_of typed Data)
 abbrev pub called : Word → ℕ → List ℕ → List ℕ
 called Digit places typed = answer_line (answered (check_digit typed))
 called (Draw kind) places typed = list_line AsWidths (writes_as kind typed places)
-called (Read which) places typed = read_typed which (widths_in typed) places
+called (Read kind) places typed = read_typed kind (widths_in typed) places
 called Test places typed = answer_line (answer_of (tested typed))
 called Split places typed = split_line (splits typed places)
 called Ask places typed = ask_typed typed
 called Add places typed = add_typed places typed
 
-abbrev pub answer_for : List ℕ → Request → List ℕ
-answer_for line (Call word places from) = called word places (drop from line)
-answer_for line Help = help_line
-answer_for line (Wrong fault) = fault_line fault
+abbrev pub answer_for : List ℕ → Result Request Fault → List ℕ
+answer_for line (Ok (Call word places from)) = called word places (drop from line)
+answer_for line (Ok Help) = help_line
+answer_for line (Err fault) = fault_line fault
 
 abbrev pub answer_by : List ℕ → List ℕ
 answer_by line = answer_for line (request_of line)

@@ -37,9 +37,14 @@ fn answer_typed(line: &[u8], list: &mut [u8], out: &mut [u8]) -> usize
     ensures { Puts (answer_by line.now) out.old result out.new }
 {
     match requests::request_of(line) {
-        Request::Call(word, places, from) => call(word, &line[from..], &mut list[..places], out),
-        Request::Help => faults::put_help(out),
-        Request::Wrong(fault) => faults::put_fault(fault, out),
+        Ok(Request::Call(word, places, from)) => call(
+            word,
+            &line[from..],
+            &mut list[..places],
+            out,
+        ),
+        Ok(Request::Help) => faults::put_help(out),
+        Err(fault) => faults::put_fault(fault, out),
     }
 }
 

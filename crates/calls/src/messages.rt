@@ -4,17 +4,17 @@ ghost use Rattle.text.specs.Puts.{Puts};
 ghost use Rattle.calls.specs.Answers.{asked_line, ask_typed, added_line, add_after, add_typed};
 
 use answers::{Form, put_answer, put_counted, put_made};
-use refusal::Answer;
+use refusal::Refusal;
 use requests::faults::put_fault;
-use requests::{Argument, Fault, Leading};
+use requests::{Argument, Fault};
 
 pub fn ask(typed: &[u8], out: &mut [u8]) -> usize
     requires { 1024 ≤ length out.old }
     ensures { Puts (ask_typed typed.now) out.old result out.new }
 {
     match requests::identifier_in(typed, Argument::Message) {
-        Leading::Identifier(identifier, from) => put_asked(&typed[from..], identifier, out),
-        Leading::Wrong(fault) => put_fault(fault, out),
+        Ok((identifier, from)) => put_asked(&typed[from..], identifier, out),
+        Err(fault) => put_fault(fault, out),
     }
 }
 
@@ -23,7 +23,7 @@ fn put_asked(message: &[u8], identifier: usize, out: &mut [u8]) -> usize
     ensures { Puts (asked_line message.now identifier) out.old result out.new }
 {
     let answer = asking::asked(message, identifier);
-    let Answer::Done(_) = answer else {
+    let Ok(_) = answer else {
         return put_answer(answer, out);
     };
     put_counted(Form::Bytes, b" ", asking::ask(message, identifier), out)
@@ -35,8 +35,8 @@ pub fn add(typed: &[u8], buffer: &mut [u8], out: &mut [u8]) -> usize
     ensures { Puts (add_typed (length buffer.old) typed.now) out.old result out.new }
 {
     match requests::identifier_in(typed, Argument::Data) {
-        Leading::Identifier(identifier, from) => add_data(identifier, &typed[from..], buffer, out),
-        Leading::Wrong(fault) => put_fault(fault, out),
+        Ok((identifier, from)) => add_data(identifier, &typed[from..], buffer, out),
+        Err(fault) => put_fault(fault, out),
     }
 }
 

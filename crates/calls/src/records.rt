@@ -5,7 +5,7 @@ ghost use Rattle.splitting.specs.Splitting.{splits};
 ghost use Rattle.calls.specs.Answers.{records_line, split_line};
 
 use answers::put_answer;
-use refusal::Answer;
+use refusal::Refusal;
 use splitting::Record;
 
 pub fn split(message: &[u8], places: usize, out: &mut [u8]) -> usize
@@ -13,30 +13,25 @@ pub fn split(message: &[u8], places: usize, out: &mut [u8]) -> usize
     ensures { Puts (split_line (splits message.now places)) out.old result out.new }
 {
     let split = splitting::split_twelve(message, places);
-    let answer = split.answer;
-    let Answer::Done(count) = answer else {
-        return put_answer(answer, out);
+    let Ok(count) = split.answer else {
+        return put_answer(split.answer, out);
     };
-    let records = split.records;
-    put_records(records, count, out)
+    put_records(&split.records[..count], out)
 }
 
-fn put_records(records: [Record; 12], count: usize, out: &mut [u8]) -> usize
-    requires count_bound { count ≤ 12 }
+fn put_records(records: &[Record], out: &mut [u8]) -> usize
+    requires records_len_bound { length records.now ≤ 12 }
     requires in_bounds { 1024 ≤ length out.old }
-    ensures { Puts (records_line (take count records)) out.old result out.new }
+    ensures { Puts (records_line records.now) out.old result out.new }
 {
-    let mut at = text::put_pair(0, count, out);
-    let mut i = 0;
-    while i < count {
-        let record = records[i];
+    let mut at = text::put_pair(0, records.len(), out);
+    for record in records {
         at += text::put_record(
             record.identifier,
             record.begin,
             record.length,
             &mut out[at..],
         );
-        i += 1;
     }
     out[at] = b'\n';
     at + 1

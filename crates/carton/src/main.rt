@@ -2,7 +2,7 @@
 #![tactic(auto)]
 
 use gs1_128::Gs1128;
-use refusal::Answer;
+use refusal::Refusal;
 use std::io;
 
 fn main(rt: HostRuntime) -> io::Result<()> {
@@ -13,25 +13,16 @@ fn main(rt: HostRuntime) -> io::Result<()> {
 }
 
 // Draws a symbol of the carton's GTIN and a batch: the count of widths, or the first refusal.
-fn draw_carton(batch: &[u8], message: &mut [u8], widths: &mut [u8]) -> Answer {
-    let begun = adding::add(message, 0, 1, b"10012345678902");
-    let Answer::Done(count) = begun else {
-        return begun;
-    };
-    let whole = adding::add(message, count, 10, batch);
-    let Answer::Done(count) = whole else {
-        return whole;
-    };
+fn draw_carton(batch: &[u8], message: &mut [u8], widths: &mut [u8]) -> Result<usize, Refusal> {
+    let count = adding::add(message, 0, 1, b"10012345678902")?;
+    let count = adding::add(message, count, 10, batch)?;
     Gs1128::write(&message[..count], widths)
 }
 
-fn print(rt: &impl Print, answer: Answer) -> io::Result<()> {
+// The count, or the refusal and its place.
+fn print(rt: &impl Print, answer: Result<usize, Refusal>) -> io::Result<()> {
     match answer {
-        Answer::Done(count) => print_line(rt, 0, count),
-        Answer::Refused(refusal) => print_line(rt, refusal.number(), refusal.place()),
+        Ok(count) => println!(rt; "0 {count}"),
+        Err(refusal) => println!(rt; "{refusal}"),
     }
-}
-
-fn print_line(rt: &impl Print, first: usize, second: usize) -> io::Result<()> {
-    println!(rt; "{first} {second}")
 }

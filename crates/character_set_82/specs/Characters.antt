@@ -4,8 +4,6 @@ use Rattle.std.specs.Prelude.{ℕ, Bool, not, ◌||◌, List, [], ◌∷◌, ◌
 use Rattle.laws.specs.First.{first_not}
 use Rattle.laws.specs.Run.{run}
 use Rattle.laws.specs.Among.{among}
-use Rattle.character_set_82.specs.declared.Class.{Class}
-use Rattle.character_set_82.specs.declared.Class.TheVariants.{Message, EightyTwo, NoSeparator}
 
 -- in order of value
 unfoldable pub eighty_two : List ℕ
@@ -20,12 +18,6 @@ separator = 29
 unfoldable pub is_message_byte : ℕ → Bool
 is_message_byte byte = is_of82 byte || eqb byte separator
 
--- the test of each class of bytes
-abbrev pub is_of : Class → ℕ → Bool
-is_of Message = is_message_byte
-is_of EightyTwo = is_of82
-is_of NoSeparator = λ byte. not (eqb byte separator)
-
 -- the place of the first separator
 unfoldable pub to_separator : List ℕ → ℕ
-to_separator bytes = first_not (is_of NoSeparator) bytes
+to_separator bytes = first_not (λ byte. not (eqb byte separator)) bytes

@@ -2,5 +2,5 @@
 --
 --   eighty_two, is_of82       Characters   GS1's 82 characters, in order of value
 --   separator, to_separator   Characters   byte 29, and the place of the first one
---   is_message_byte, is_of    Characters   one of the 82, or the separator; the test of each class of bytes
+--   is_message_byte           Characters   one of the 82, or the separator
 pub mod Characters

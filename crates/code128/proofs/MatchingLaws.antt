@@ -64,7 +64,7 @@ module _ (widths : List ℕ) where
       packed_same (get_or patterns candidate []) widths (pattern_length candidate below ∙ sym six) (pattern_bytes candidate below) bytes (sym e)
 
 -- the six bytes of a number
-abbrev pub unpacked : ℕ → List ℕ
+abbrev unpacked : ℕ → List ℕ
 unpacked p =
     (p % 256)
     ∷ (p / 0x100 % 256)

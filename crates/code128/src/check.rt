@@ -9,10 +9,8 @@ pub fn check_of(start: usize, values: &[u8]) -> usize
     ensures { result ≡ check_of start values.now }
 {
     let mut sum = start;
-    let mut i = 0;
-    while i < values.len() {
-        sum += (i + 1) * values[i] as usize;
-        i += 1;
+    for (i, value) in values.iter().enumerate() {
+        sum += (i + 1) * usize::from(*value);
     }
     sum % 103
 }

@@ -1,6 +1,7 @@
 -- A value is one step of the rule: its bytes are put after the text so far, and what is then to be read is the same. Steps follow one another,
 -- so a run of them promises what its caller owes, and so does the reader that it hands on to. A text that is over 48 bytes already is
 -- refused, whatever follows, as an illegal sequence is.
+use Rattle.std.specs.Prelude.{Result, Ok, Err}
 use Prim.Native.Nat.{ℕ, ◌+◌, ◌-◌, ◌≤◌, ◌<◌}
 use mathlib.Core.Path.{◌≡◌, refl, sym, ap, subst, ◌∙◌}
 use mathlib.Core.Bool.{Bool, true, false, cond, ◌&&◌}
@@ -13,16 +14,13 @@ use lib.Seq.{sets, sets-eq, length-sets, length-take-le, take_at, drop_at, drop-
 use lib.Dec.{leb}
 use borrow.Author.Tests.{lt-ltb, le-ltb, le-leb, lt-leb, leb-true, leb-false}
 use Rattle.character_set_82.specs.Characters.{is_of82}
-use Rattle.refusal.specs.declared.Answer.{Answer}
-use Rattle.refusal.specs.declared.Answer.TheVariants.{Done, Refused}
 use Rattle.refusal.specs.declared.Refusal.{Refusal}
 use Rattle.refusal.specs.declared.Refusal.TheVariants.{Sequence}
 use Rattle.refusal.specs.Outcome.{Outcome, made, refused, ◌>>=◌, ◌>>◌, must}
 use Rattle.refusal.specs.Fills.{answer_of, FillsOwn}
 use Rattle.refusal.proofs.OutcomeLaws.{made_not_refused, made_same, must_made, bind_made}
-use Rattle.refusal.proofs.OwnLaws.{own_refused}
 use Rattle.code_sets.specs.declared.readers.Run.{Run}
-use Rattle.code_sets.specs.declared.readers.Run.TheVariants.{On, ToA, ToB, ToC, Stuck}
+use Rattle.code_sets.specs.declared.readers.Run.TheVariants.{On, ToA, ToB, ToC}
 use Rattle.code_sets.specs.Sets.{Set, set_a, set_b, set_c, Meaning, meaning_in, byte_in, other}
 use Rattle.code_sets.specs.Reading.{Mode, in_set, shifted_from, Step, step, stuck, emitted, meant, step_in, go_on, spells}
 use Rattle.code_sets.specs.Readers.{read_on, to_read, Came, Reached, Runs, changed, RunPuts}
@@ -147,11 +145,11 @@ module _ (mode : Mode) (values : List ℕ) (i : ℕ) (here : i < length values) 
   passes next is = rw add-zero at (steps [] next is (omega arith))
 
   -- a value whose bytes are put
-  pub turns : (set : Set) (legal : Bool) (bytes : List ℕ) (least : ℕ) (r : Run) (after : List ℕ) → least ≤ i + 1 → step_in mode value ≡ emitted legal bytes (in_set set) → RunPuts legal bytes (i + 1) n text r after → Runs mode set values i text n least r after
+  pub turns : (set : Set) (legal : Bool) (bytes : List ℕ) (least : ℕ) (r : Result Run Refusal) (after : List ℕ) → least ≤ i + 1 → step_in mode value ≡ emitted legal bytes (in_set set) → RunPuts legal bytes (i + 1) n text r after → Runs mode set values i text n least r after
   turns set legal bytes least r after past is puts =
       record { reached = rw puts.answer (go legal (leb (n + length bytes) (length text)) refl is puts.lent) }
     where
-      go : (l fits : Bool) → leb (n + length bytes) (length text) ≡ fits → step_in mode value ≡ emitted l bytes (in_set set) → ((l && fits) ≡ true → after ≡ sets text n bytes) → Reached mode set values i text n least (cond (l && fits) (On (i + 1) (n + length bytes)) Stuck) after
+      go : (l fits : Bool) → leb (n + length bytes) (length text) ≡ fits → step_in mode value ≡ emitted l bytes (in_set set) → ((l && fits) ≡ true → after ≡ sets text n bytes) → Reached mode set values i text n least (cond (l && fits) (Ok (On (i + 1) (n + length bytes))) (Err Sequence)) after
       go true true fits is lent =
           (past, rw (lent refl) (steps bytes (in_set set) is (omega (arith, leb-true (n + length bytes) (length text) fits))))
       go true false fits is lent = too_long bytes (in_set set) is (omega (arith, leb-false (n + length bytes) (length text) fits))
@@ -159,7 +157,7 @@ module _ (mode : Mode) (values : List ℕ) (i : ℕ) (here : i < length values) 
       go false false fits is lent = sticks is
 
 -- a change of set
-pub changes : {mode : Mode} {values : List ℕ} {from : ℕ} {before : List ℕ} {at i : ℕ} {text : List ℕ} {n : ℕ} (set to : Set) (least : ℕ) → from + 1 ≤ i → Came mode values from before at (in_set to) i text n → Runs mode set values from before at least (changed to i n) text
+pub changes : {mode : Mode} {values : List ℕ} {from : ℕ} {before : List ℕ} {at i : ℕ} {text : List ℕ} {n : ℕ} (set to : Set) (least : ℕ) → from + 1 ≤ i → Came mode values from before at (in_set to) i text n → Runs mode set values from before at least (Ok (changed to i n)) text
 changes set set_a least past came = record { reached = (past, came) }
 changes set set_b least past came = record { reached = (past, came) }
 changes set set_c least past came = record { reached = (past, came) }
@@ -171,9 +169,6 @@ shift_at_end set values i text n over =
 
 -- one after the other
 module _ {mode : Mode} {values : List ℕ} {from : ℕ} {before : List ℕ} {at : ℕ} where
-  pub begins : from ≤ length values → length before ≡ 48 → at ≤ 48 → Came mode values from before at mode from before at
-  begins h size few = record { further = omega arith; within = h; size = size; more = omega arith; few = few; same = refl; rest = refl }
-
   module _ {next : Mode} {i : ℕ} {text : List ℕ} {n : ℕ} (came : Came mode values from before at next i text n) where
     pub then : {last : Mode} {j : ℕ} {after : List ℕ} {m : ℕ} → Came next values i text n last j after m → Came mode values from before at last j after m
     then {after = after} {m = m} on = record {
@@ -186,18 +181,18 @@ module _ {mode : Mode} {values : List ℕ} {from : ℕ} {before : List ℕ} {at 
       rest = on.rest ∙ rest_later text before n m on.more came.rest;
     }
 
-    pub then_runs : {set : Set} {least : ℕ} {r : Run} {after : List ℕ} → Runs next set values i text n least r after → Runs mode set values from before at least r after
+    pub then_runs : {set : Set} {least : ℕ} {r : Result Run Refusal} {after : List ℕ} → Runs next set values i text n least r after → Runs mode set values from before at least r after
     then_runs {set} {least} {r} {after} runs = record { reached = go r runs.reached }
       where
-        go : (r : Run) → Reached next set values i text n least r after → Reached mode set values from before at least r after
-        go (On j m) to = (to.0, then to.1)
-        go (ToA j m) to = (omega (arith, came.further, to.0), then to.1)
-        go (ToB j m) to = (omega (arith, came.further, to.0), then to.1)
-        go (ToC j m) to = (omega (arith, came.further, to.0), then to.1)
-        go Stuck to = came.same ∙ to
+        go : (r : Result Run Refusal) → Reached next set values i text n least r after → Reached mode set values from before at least r after
+        go (Ok (On j m)) to = (to.0, then to.1)
+        go (Ok (ToA j m)) to = (omega (arith, came.further, to.0), then to.1)
+        go (Ok (ToB j m)) to = (omega (arith, came.further, to.0), then to.1)
+        go (Ok (ToC j m)) to = (omega (arith, came.further, to.0), then to.1)
+        go (Err f) to = came.same ∙ to
 
     -- another reader goes on
-    then_reads : (r : Answer) (after : List ℕ) → FillsOwn (to_read next values i text n) text r after → FillsOwn (to_read mode values from before at) before r after
+    then_reads : (r : Result ℕ Refusal) (after : List ℕ) → FillsOwn (to_read next values i text n) text r after → FillsOwn (to_read mode values from before at) before r after
     then_reads r after reads = record {
       answer = reads.answer ∙ ap answer_of (sym came.same);
       lent = λ xs is.
@@ -208,42 +203,29 @@ module _ {mode : Mode} {values : List ℕ} {from : ℕ} {before : List ℕ} {at 
     }
 
   -- the end of the values
-  then_ends : {set : Set} {i : ℕ} {text : List ℕ} {n : ℕ} → Came mode values from before at (in_set set) i text n → length values ≤ i → FillsOwn (to_read mode values from before at) before (Done n) text
+  then_ends : {set : Set} {i : ℕ} {text : List ℕ} {n : ℕ} → Came mode values from before at (in_set set) i text n → length values ≤ i → FillsOwn (to_read mode values from before at) before (Ok n) text
   then_ends {set} {i} {text} {n} came over =
       let long : length (take n text) ≡ n = length-take-le n text (omega (arith, came.size, came.few)) in
       let ended : to_read (in_set set) values i text n ≡ made (take n text) =
       ap (read_on (take n text) (in_set set)) (drop_of_length-le values {i = i} over) ∙ read_over (take n text) set (omega (arith, came.few)) in
-      then_reads came (Done n) text record {
-        answer = ap Done (sym long) ∙ ap answer_of (sym ended);
+      then_reads came (Ok n) text record {
+        answer = ap Ok (sym long) ∙ ap answer_of (sym ended);
         lent = λ xs is. rw (← made_same (take n text) xs (sym ended ∙ is), long) (sym (take-append-drop n text));
       }
 
--- a reader with t values left, where its run has answered
-pub record Ran (set : Set) (t : ℕ) (values : List ℕ) (from : ℕ) (before : List ℕ) (at : ℕ) (run : Run) (middle : List ℕ) : Type 0 where
-  pub left : length values - from ≡ t
-  pub runs : Runs (in_set set) set values from before at (length values) run middle
+-- where a reader's run has answered
+module _ {set : Set} {values : List ℕ} {from : ℕ} {before : List ℕ} {at : ℕ} {run : Run} {middle : List ℕ} (runs : Runs (in_set set) set values from before at (length values) (Ok run) middle) where
+  there : (r : Run) → run ≡ r → Reached (in_set set) set values from before at (length values) (Ok r) middle
+  there r e = subst (λ (r : Run). Reached (in_set set) set values from before at (length values) (Ok r) middle) e runs.reached
 
-module _ {set : Set} {t : ℕ} {values : List ℕ} {from : ℕ} {before : List ℕ} {at : ℕ} {run : Run} {middle : List ℕ} (ran : Ran set t values from before at run middle) where
-  there : (r : Run) → run ≡ r → Reached (in_set set) set values from before at (length values) r middle
-  there r e = subst (λ (r : Run). Reached (in_set set) set values from before at (length values) r middle) e ran.runs.reached
-
-  pub ends : (i n : ℕ) → run ≡ On i n → FillsOwn (to_read (in_set set) values from before at) before (Done n) middle
+  pub ends : (i n : ℕ) → run ≡ On i n → FillsOwn (to_read (in_set set) values from before at) before (Ok n) middle
   ends i n e = let to = there (On i n) e in then_ends to.1 to.0
 
-  pub refuses : run ≡ Stuck → FillsOwn (to_read (in_set set) values from before at) before (Refused Sequence) middle
-  refuses e = own_refused (to_read (in_set set) values from before at) before middle Sequence (there Stuck e)
+  came_to : (next : Set) (i n : ℕ) → run ≡ changed next i n → Came (in_set set) values from before at (in_set next) i middle n
+  came_to set_a i n e = (there (ToA i n) e).1
+  came_to set_b i n e = (there (ToB i n) e).1
+  came_to set_c i n e = (there (ToC i n) e).1
 
-  came_to : (next : Set) (i n : ℕ) → run ≡ changed next i n → (from + 1 ≤ i) × Came (in_set set) values from before at (in_set next) i middle n
-  came_to set_a i n e = there (ToA i n) e
-  came_to set_b i n e = there (ToB i n) e
-  came_to set_c i n e = there (ToC i n) e
-
-  -- at a change the next reader may be called: fewer values are left
-  pub may_call : (next : Set) (i n : ℕ) → run ≡ changed next i n → (length values - i < t) × ((i ≤ length values) × (length middle ≡ 48) × (n ≤ 48))
-  may_call next i n e =
-      let to = came_to next i n e in
-      (omega (arith, ran.left, to.0, to.1.within), (to.1.within, to.1.size, to.1.few))
-
-  -- and what it reads is what this one owes
-  pub hands_on : (next : Set) (i n : ℕ) → run ≡ changed next i n → {r : Answer} {after : List ℕ} → FillsOwn (to_read (in_set next) values i middle n) middle r after → FillsOwn (to_read (in_set set) values from before at) before r after
-  hands_on next i n e {r} {after} reads = then_reads (came_to next i n e).1 r after reads
+  -- at a change, what the next reader reads is what this one owes
+  pub hands_on : (next : Set) (i n : ℕ) → run ≡ changed next i n → {r : Result ℕ Refusal} {after : List ℕ} → FillsOwn (to_read (in_set next) values i middle n) middle r after → FillsOwn (to_read (in_set set) values from before at) before r after
+  hands_on next i n e {r} {after} reads = then_reads (came_to next i n e) r after reads

@@ -1,10 +1,11 @@
 -- What the readers of sets A, B and C promise one another: each is handed the text so far and goes on with it, a value at a time.
-use Rattle.std.specs.Prelude.{ℕ, ◌+◌, ◌≤◌, ◌≡◌, Bool, true, cond, ◌&&◌, List, ◌++◌, length, take, drop, leb}
+use Rattle.std.specs.Prelude.{ℕ, ◌+◌, ◌≤◌, ◌≡◌, Bool, true, cond, ◌&&◌, List, ◌++◌, length, take, drop, leb, Result, Ok, Err}
 use Rattle.std.proofs.lemmas.List.Edits.{sets}
+use Rattle.refusal.specs.declared.Refusal.{Refusal}
 use Rattle.refusal.specs.declared.Refusal.TheVariants.{Sequence}
 use Rattle.refusal.specs.Outcome.{Outcome, made, refused, ◌>>=◌, ◌>>◌, must}
 use Rattle.code_sets.specs.declared.readers.Run.{Run}
-use Rattle.code_sets.specs.declared.readers.Run.TheVariants.{On, ToA, ToB, ToC, Stuck}
+use Rattle.code_sets.specs.declared.readers.Run.TheVariants.{On, ToA, ToB, ToC}
 use Rattle.code_sets.specs.Sets.{Set, set_a, set_b, set_c}
 use Rattle.code_sets.specs.Reading.{Mode, in_set, spells}
 
@@ -30,14 +31,14 @@ pub record Came (mode : Mode) (values : List ℕ) (from : ℕ) (before : List �
   pub rest : drop n text ≡ drop n before
 
 -- the answer of a run: it has come so far in its own set, past a least place; or to a change, past at least one value; or the rule refuses
-abbrev pub Reached : Mode → Set → List ℕ → ℕ → List ℕ → ℕ → ℕ → Run → List ℕ → Type 0
-Reached mode set values from before at least (On i n) after = (least ≤ i) × Came mode values from before at (in_set set) i after n
-Reached mode set values from before at least (ToA i n) after = (from + 1 ≤ i) × Came mode values from before at (in_set set_a) i after n
-Reached mode set values from before at least (ToB i n) after = (from + 1 ≤ i) × Came mode values from before at (in_set set_b) i after n
-Reached mode set values from before at least (ToC i n) after = (from + 1 ≤ i) × Came mode values from before at (in_set set_c) i after n
-Reached mode set values from before at least Stuck after = to_read mode values from before at ≡ refused Sequence
+abbrev pub Reached : Mode → Set → List ℕ → ℕ → List ℕ → ℕ → ℕ → Result Run Refusal → List ℕ → Type 0
+Reached mode set values from before at least (Ok (On i n)) after = (least ≤ i) × Came mode values from before at (in_set set) i after n
+Reached mode set values from before at least (Ok (ToA i n)) after = (from + 1 ≤ i) × Came mode values from before at (in_set set_a) i after n
+Reached mode set values from before at least (Ok (ToB i n)) after = (from + 1 ≤ i) × Came mode values from before at (in_set set_b) i after n
+Reached mode set values from before at least (Ok (ToC i n)) after = (from + 1 ≤ i) × Came mode values from before at (in_set set_c) i after n
+Reached mode set values from before at least (Err f) after = to_read mode values from before at ≡ refused f
 
-pub record Runs (mode : Mode) (set : Set) (values : List ℕ) (from : ℕ) (before : List ℕ) (at least : ℕ) (r : Run) (after : List ℕ) : Type 0 where
+pub record Runs (mode : Mode) (set : Set) (values : List ℕ) (from : ℕ) (before : List ℕ) (at least : ℕ) (r : Result Run Refusal) (after : List ℕ) : Type 0 where
   pub reached : Reached mode set values from before at least r after
 
 abbrev pub changed : Set → ℕ → ℕ → Run
@@ -46,6 +47,6 @@ changed set_b i n = ToB i n
 changed set_c i n = ToC i n
 
 -- bytes put at a place of a list, where they are legal and there is room, to go on at a place of the values
-pub record RunPuts (legal : Bool) (bytes : List ℕ) (next at : ℕ) (before : List ℕ) (r : Run) (after : List ℕ) : Type 0 where
-  pub answer : r ≡ cond (legal && leb (at + length bytes) (length before)) (On next (at + length bytes)) Stuck
+pub record RunPuts (legal : Bool) (bytes : List ℕ) (next at : ℕ) (before : List ℕ) (r : Result Run Refusal) (after : List ℕ) : Type 0 where
+  pub answer : r ≡ cond (legal && leb (at + length bytes) (length before)) (Ok (On next (at + length bytes))) (Err Sequence)
   pub lent : (legal && leb (at + length bytes) (length before)) ≡ true → after ≡ sets before at bytes

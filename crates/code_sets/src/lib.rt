@@ -1,34 +1,30 @@
 // Code sets A, B and C: the message that values spell.
 #![tactic(auto)]
 
-ghost use Rattle.std.specs.Prelude.{[], ◌≡◌, length};
+ghost use Rattle.std.specs.Prelude.{[]};
 ghost use Rattle.refusal.specs.Fills.{FillsOwn};
 ghost use Rattle.code_sets.specs.Reading.{in_set, start_set, decoded};
 ghost use Rattle.code_sets.specs.Readers.{read_on};
 
-use refusal::{Answer, Refusal};
+use refusal::Refusal;
 
 mod readers;
 pub mod sets;
 
 // The message that a start and the values after the first FNC1 spell, in a list of the caller's own; or refusal 8.
-pub fn text_of(start: usize, values: &[u8], text: &mut [u8]) -> Answer
-    requires { length text.old ≡ 48 }
+pub fn text_of(start: usize, values: &[u8], text: &mut [u8; 48]) -> Result<usize, Refusal>
     ensures { FillsOwn (decoded start values.now) text.old result text.new }
 {
-    let read = read_from(start, values, text);
-    let Answer::Done(count) = read else {
-        return read;
-    };
+    let count = read_from(start, values, text)?;
     if count == 0 {
-        return Answer::Refused(Refusal::Sequence);
+        Err(Refusal::Sequence)
+    } else {
+        Ok(count)
     }
-    read
 }
 
 // Reads in the set that the start names.
-fn read_from(start: usize, values: &[u8], own: &mut [u8]) -> Answer
-    requires { length own.old ≡ 48 }
+fn read_from(start: usize, values: &[u8], own: &mut [u8; 48]) -> Result<usize, Refusal>
     ensures { FillsOwn (read_on [] (in_set (start_set start)) values.now) own.old result own.new }
 {
     match start {

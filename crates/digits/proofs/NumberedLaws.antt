@@ -1,5 +1,6 @@
 -- The rules of the calls that draw and read a number, read backwards, and how they undo one another: a right number is its digits, its
 -- digits are its bytes, so all that a symbology adds is that its scan and its drawing undo one another.
+use Rattle.std.specs.Prelude.{Result, Ok, Err}
 use Prim.Native.Nat.{ℕ, ◌+◌, ◌≤◌, ◌<◌}
 use mathlib.Core.Path.{◌≡◌, refl, sym, ap, ap₂, ◌∙◌, subst}
 use mathlib.Core.Bool.{true}
@@ -13,14 +14,12 @@ use borrow.Author.Tests.{le-leb, eqb-true, eq-eqb}
 use Rattle.laws.specs.Below.{Below}
 use Rattle.laws.specs.First.{first_not}
 use Rattle.laws.proofs.FirstLaws.{all_pass, pass_all}
-use Rattle.refusal.specs.declared.Answer.{Answer}
-use Rattle.refusal.specs.declared.Answer.TheVariants.{Done, Refused}
 use Rattle.refusal.specs.declared.Refusal.{Refusal}
 use Rattle.refusal.specs.declared.Refusal.TheVariants.{Count, Character, CheckDigit}
 use Rattle.refusal.specs.Outcome.{Outcome, made, refused, must, ◌>>◌}
 use Rattle.refusal.specs.Fills.{answer_of, Fills, FillsOwn, laying}
 use Rattle.refusal.proofs.OutcomeLaws.{made_same, must_made, bind_made, must_then}
-use Rattle.refusal.proofs.FillsLaws.{refused_of_answer, made_of_answer, fills_passed, fills_same, laying_made, made_of_laying}
+use Rattle.refusal.proofs.FillsLaws.{refused_of_answer, made_of_answer, fills_refused, fills_passed, fills_same, laying_made, made_of_laying}
 use Rattle.refusal.proofs.OwnLaws.{own_made}
 use Rattle.digits.specs.Digit.{is_digit, value_of, digits_of}
 use Rattle.digits.specs.Check.{is_right, right_number}
@@ -50,13 +49,13 @@ right_made count number ds e =
     let d = digits_of_made number b.0 b.1 in
     record { counted = eqb-true _ _ a.0; all = d.0; values = sym same ∙ d.1; right = rw same at c.0 }
 
-pub right_done : (count : ℕ) (number : List ℕ) (n : ℕ) → Done n ≡ answer_of (right_number count number) → RightNumber count number (map value_of number)
+pub right_done : (count : ℕ) (number : List ℕ) (n : ℕ) → Ok n ≡ answer_of (right_number count number) → RightNumber count number (map value_of number)
 right_done count number n e =
     let m = made_of_answer (right_number count number) n e in
     let r = right_made count number m.0 m.1 in
     subst (λ (ds : List ℕ). RightNumber count number ds) r.values r
 
-pub right_refused : (count : ℕ) (number : List ℕ) (f : Refusal) → Refused f ≡ answer_of (right_number count number) → right_number count number ≡ refused f
+pub right_refused : (count : ℕ) (number : List ℕ) (f : Refusal) → Err f ≡ answer_of (right_number count number) → right_number count number ≡ refused f
 right_refused count number f e = refused_of_answer (right_number count number) f e
 
 pub right_of_parts : (count : ℕ) (number ds : List ℕ) → RightNumber count number ds → right_number count number ≡ made ds
@@ -90,7 +89,7 @@ bytes_are_digits ds below = pass_all is_digit (map byte_of ds) 48
     (simp (le-leb 48 (byte_of (get_or ds i 0)) (omega arith), le-leb (byte_of (get_or ds i 0)) 57 (omega (arith, below i within)))))
 
 -- the values that the test of a number has laid in as many places as it must have digits
-pub tested_values : (count : ℕ) (number before after : List ℕ) (r : Answer) (n : ℕ) → FillsOwn (right_number count number) before r after → r ≡ Done n → length before ≡ count → (after ≡ map value_of number) × (length after ≡ count) × Below 10 after
+pub tested_values : (count : ℕ) (number before after : List ℕ) (r : Result ℕ Refusal) (n : ℕ) → FillsOwn (right_number count number) before r after → r ≡ Ok n → length before ≡ count → (after ≡ map value_of number) × (length after ≡ count) × Below 10 after
 tested_values count number before after r n fills is long =
     let known = right_done count number n (sym is ∙ fills.answer) in
     let digits = right_of_parts count number (map value_of number) known in
@@ -105,12 +104,12 @@ module _ (count : ℕ) (symbol : List ℕ → List ℕ) (number : List ℕ) (roo
   unfolding number_written
   written_made ds e = rw e
 
-  module _ (tested : Answer) (answer : tested ≡ answer_of (right_number count number)) where
-    pub written_refused : (f : Refusal) (lent : List ℕ) → tested ≡ Refused f → Fills (number_written count symbol number room) lent tested lent
+  module _ (tested : Result ℕ Refusal) (answer : tested ≡ answer_of (right_number count number)) where
+    pub written_refused : (f : Refusal) (lent : List ℕ) → tested ≡ Err f → Fills (number_written count symbol number room) lent tested lent
     unfolding number_written
     written_refused f lent is = fills_passed _ f lent tested is (rw (refused_of_answer (right_number count number) f (sym is ∙ answer)))
 
-    pub written_laid : (n : ℕ) (bars lent after : List ℕ) (r : Answer) → tested ≡ Done n → bars ≡ symbol (map value_of number) → Fills (laying bars room) lent r after → Fills (number_written count symbol number room) lent r after
+    pub written_laid : (n : ℕ) (bars lent after : List ℕ) (r : Result ℕ Refusal) → tested ≡ Ok n → bars ≡ symbol (map value_of number) → Fills (laying bars room) lent r after → Fills (number_written count symbol number room) lent r after
     written_laid n bars lent after r is drawn laid =
         let ds = map value_of number in
         let digits = right_of_parts count number ds (right_done count number n (sym is ∙ answer)) in
@@ -142,9 +141,9 @@ module _ (scanned : Outcome (List ℕ)) where
   unfolding number_read
   read_made room ds e right = rw (e, right)
 
-  pub read_refused : (before after : List ℕ) (r : Answer) → FillsOwn scanned before r after → (f : Refusal) (room : ℕ) (lent : List ℕ) → r ≡ Refused f → Fills (number_read scanned room) lent r lent
+  pub read_refused : (room : ℕ) (f : Refusal) (lent : List ℕ) → scanned ≡ refused f → Fills (number_read scanned room) lent (Err f) lent
   unfolding number_read
-  read_refused before after r fills f room lent is = fills_passed _ f lent r is (rw (refused_of_answer scanned f (sym is ∙ fills.answer)))
+  read_refused room f lent e = fills_refused _ f lent (rw e)
 
 -- of digits, reading refuses and makes what writing their number as its bytes does
 pub read_as_written : (ds : List ℕ) (room : ℕ) → Below 10 ds → number_read (made ds) room ≡ number_written (length ds) (map byte_of) (map byte_of ds) room
@@ -182,13 +181,6 @@ module _ (count : ℕ) (symbol : List ℕ → List ℕ) (scanned : List ℕ → 
       written_made count symbol number room' ds (ap (right_number count) (sym bytes) ∙ right_of_parts count (map byte_of ds) ds known)
       ∙ laying_made (symbol ds) room' (rw b.0 fits)
       ∙ ap made b.0
-
-  -- a scan that has filled a list of as many places
-  pub digits_scanned : ((widths ds : List ℕ) → scanned widths ≡ made ds → (symbol ds ≡ widths) × (length ds ≡ count) × Below 10 ds) → (widths before after : List ℕ) (r : Answer) (n : ℕ) → FillsOwn (scanned widths) before r after → r ≡ Done n → length before ≡ count → (scanned widths ≡ made after) × (length after ≡ count) × Below 10 after
-  digits_scanned back widths before after r n fills is places =
-      let e = own_made (scanned widths) before after r n is fills (λ ds e. (back widths ds e).1 ∙ sym places) in
-      let parts = back widths after e in
-      (e, parts.1, parts.2)
 
   -- so no two lists are read as one number
   pub one_list : ((widths ds : List ℕ) → scanned widths ≡ made ds → (symbol ds ≡ widths) × (length ds ≡ count) × Below 10 ds) → (widths widths' number : List ℕ) (room room' : ℕ) → number_read (scanned widths) room ≡ made number → number_read (scanned widths') room' ≡ made number → widths ≡ widths'

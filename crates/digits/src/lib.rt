@@ -11,106 +11,89 @@ ghost use Rattle.digits.specs.Digit.{is_digit, value_of};
 ghost use Rattle.digits.specs.Check.{weight_at, check_digit, right_number};
 ghost use Rattle.digits.specs.Numbered.{number_read};
 
-use refusal::{Answer, Refusal};
+use refusal::Refusal;
+
+pub mod numbered;
 
 // The check digit of 1 to 17 digits: its value, 0 to 9.
-pub fn check_digit(digits: &[u8]) -> Answer
+pub fn check_digit(digits: &[u8]) -> Result<usize, Refusal>
     ensures { result ≡ answered (check_digit digits.now) }
 {
-    if digits.len() < 1 {
-        return Answer::Refused(Refusal::Count);
-    }
-    if 17 < digits.len() {
-        return Answer::Refused(Refusal::Count);
+    if digits.is_empty() || 17 < digits.len() {
+        return Err(Refusal::Count);
     }
     let place = first_other(digits);
     if place < digits.len() {
-        return Answer::Refused(Refusal::Character(place));
+        return Err(Refusal::Character(place));
     }
-    Answer::Done((10 - weighed_sum(digits) % 10) % 10)
+    Ok((10 - weighed_sum(digits) % 10) % 10)
 }
 
 // Whether a number has so many digits and the last of them is its check digit: the count, or the refusal.
-pub fn right_number(number: &[u8], count: usize) -> Answer
+pub fn right_number(number: &[u8], count: usize) -> Result<usize, Refusal>
     requires count_nonzero { 0 < count }
     requires count_bound { count ≤ 18 }
     ensures { result ≡ answer_of (right_number count number.now) }
 {
     if number.len() != count {
-        return Answer::Refused(Refusal::Count);
+        return Err(Refusal::Count);
     }
     let place = first_other(number);
     if place < count {
-        return Answer::Refused(Refusal::Character(place));
+        return Err(Refusal::Character(place));
     }
     let last = count - 1;
     let sum = weighed_sum(&number[..last]) + value_of(number[last]);
     if sum % 10 == 0 {
-        Answer::Done(count)
+        Ok(count)
     } else {
-        Answer::Refused(Refusal::CheckDigit)
+        Err(Refusal::CheckDigit)
     }
 }
 
 // The digits of a right number by value, as many as there are places for.
-pub fn values_of(number: &[u8], values: &mut [u8]) -> Answer
+pub fn values_of(number: &[u8], values: &mut [u8]) -> Result<usize, Refusal>
     requires values_nonzero { 0 < length values.old }
     requires values_len_bound { length values.old ≤ 18 }
     ensures { FillsOwn (right_number (length values.old) number.now) values.old result values.new }
 {
-    let tested = right_number(number, values.len());
-    let Answer::Done(_) = tested else {
-        return tested;
-    };
-    let mut i = 0;
-    while i < values.len() {
-        values[i] = number[i] - b'0';
-        i += 1;
+    let count = right_number(number, values.len())?;
+    for (i, byte) in number.iter().enumerate() {
+        values[i] = byte - b'0';
     }
-    Answer::Done(i)
+    Ok(count)
 }
 
 // Lays the number of these digits, if the last of them is its check digit: the end of every reading of a number.
-pub fn lay_values(values: &[u8], lent: &mut [u8]) -> Answer
+pub fn lay_values(values: &[u8], lent: &mut [u8]) -> Result<usize, Refusal>
     requires values_nonzero { 0 < length values.now }
     requires values_len_bound { length values.now ≤ 18 }
     requires below { Below 10 values.now }
     ensures { Fills (number_read (made values.now) (length lent.old)) lent.old result lent.new }
 {
-    let mut number = [0u8; 18];
-    let mut i = 0;
-    while i < values.len() {
-        number[i] = b'0' + values[i];
-        i += 1;
+    let mut bytes = [0u8; 18];
+    let number = &mut bytes[..values.len()];
+    for (i, value) in values.iter().enumerate() {
+        number[i] = b'0' + value;
     }
-    let tested = right_number(&number[..i], i);
-    let Answer::Done(_) = tested else {
-        return tested;
-    };
-    refusal::lay(&number[..i], lent)
+    right_number(number, values.len())?;
+    refusal::lay(number, lent)
 }
 
 pub fn is_digit(byte: u8) -> bool
     ensures { result ≡ is_digit byte }
 {
-    if byte < b'0' {
-        return false;
-    }
-    byte <= b'9'
+    byte.is_ascii_digit()
 }
 
 // The place of the first byte that is no digit, or the count of bytes where there is none.
 pub fn first_other(bytes: &[u8]) -> usize
     ensures { result ≡ first_not is_digit bytes.now }
 {
-    let mut i = 0;
-    while i < bytes.len() {
-        if !is_digit(bytes[i]) {
-            return i;
-        }
-        i += 1;
-    }
-    i
+    bytes
+        .iter()
+        .position(|byte| !is_digit(*byte))
+        .unwrap_or(bytes.len())
 }
 
 pub fn value_of(byte: u8) -> usize
@@ -129,10 +112,8 @@ fn weighed_sum(digits: &[u8]) -> usize
 {
     let mut sum: usize = 0;
     let mut weight: usize = 3;
-    let mut i = digits.len();
-    while 0 < i {
-        i -= 1;
-        sum += weight * value_of(digits[i]);
+    for digit in digits.iter().rev() {
+        sum += weight * value_of(*digit);
         weight = 4 - weight;
     }
     sum

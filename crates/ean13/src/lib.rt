@@ -7,7 +7,8 @@ ghost use Rattle.ean13.specs.Ean13.{writes, reads};
 
 mod stages;
 
-use refusal::Answer;
+use digits::numbered;
+use refusal::Refusal;
 
 // The calls on EAN-13 symbols.
 #[derive(Clone, Copy)]
@@ -20,27 +21,16 @@ impl Ean13 {
     pub const WIDTHS: usize = 59;
 
     // Draws a number of thirteen digits: refusals 1, 2, 3 and 12, or 59 widths.
-    pub fn write(number: &[u8], widths: &mut [u8]) -> Answer
+    pub fn write(number: &[u8], widths: &mut [u8]) -> Result<usize, Refusal>
         ensures { Fills (writes number.now (length widths.old)) widths.old result widths.new }
     {
-        let mut digits = [0u8; Ean13::DIGITS];
-        let tested = digits::values_of(number, &mut digits);
-        let Answer::Done(_) = tested else {
-            return tested;
-        };
-        let symbol = stages::symbol(&digits);
-        refusal::lay(&symbol, widths)
+        numbered::write::<Ean13, _, _>(number, widths)
     }
 
     // Reads a symbol: refusals 1, 4, 5, 3 and 12, or thirteen digits.
-    pub fn read(widths: &[u8], number: &mut [u8]) -> Answer
+    pub fn read(widths: &[u8], number: &mut [u8]) -> Result<usize, Refusal>
         ensures { Fills (reads widths.now (length number.old)) number.old result number.new }
     {
-        let mut values = [0u8; Ean13::DIGITS];
-        let scanned = stages::digits_in(widths, &mut values);
-        let Answer::Done(_) = scanned else {
-            return scanned;
-        };
-        digits::lay_values(&values, number)
+        numbered::read::<Ean13, _, _>(widths, number)
     }
 }

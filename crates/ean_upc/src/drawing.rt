@@ -18,7 +18,7 @@ pub fn halves(sets: Sets, left: &[u8], right: &[u8], to: &mut [u8])
     let end = centre_at + CENTRE_WIDTHS + CHARACTER * right.len();
     guarded_half(&tables::GUARD, sets, left, &mut to[..centre_at]);
     guarded_half(&tables::CENTRE, Sets::C, right, &mut to[centre_at..end]);
-    refusal::lay(&tables::GUARD, &mut to[end..]);
+    to[end..].copy_from_slice(&tables::GUARD);
 }
 
 // Draws a guard and the half that follows it.
@@ -28,7 +28,7 @@ pub fn guarded_half(guard: &[u8], sets: Sets, values: &[u8], to: &mut [u8])
     ensures { to.new ≡ guard.now ++ drawn (patterns_of sets) values.now }
 {
     let at = guard.len();
-    refusal::lay(guard, &mut to[..at]);
+    to[..at].copy_from_slice(guard);
     half(sets, values, &mut to[at..]);
 }
 
@@ -38,11 +38,9 @@ fn half(sets: Sets, values: &[u8], to: &mut [u8])
     requires below { Below (length (patterns_of sets)) values.now }
     ensures { to.new ≡ drawn (patterns_of sets) values.now }
 {
-    let mut i = 0;
-    while i < values.len() {
+    for (i, value) in values.iter().enumerate() {
         let at = CHARACTER * i;
-        let widths = tables::pattern(sets, values[i] as usize);
-        refusal::lay(&widths, &mut to[at..at + CHARACTER]);
-        i += 1;
+        let widths = tables::pattern(sets, *value as usize);
+        to[at..at + CHARACTER].copy_from_slice(&widths);
     }
 }

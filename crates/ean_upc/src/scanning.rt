@@ -8,31 +8,24 @@ ghost use Rattle.ean_upc.specs.Halves.{patterns_of, guarded, halves_in};
 
 use crate::tables;
 use crate::tables::{CENTRE_WIDTHS, CHARACTER, GUARD_WIDTHS, Sets};
-use patterns::Match;
-use refusal::{Answer, Refusal};
+use refusal::Refusal;
 
 // The values of two halves between their guards, `count` characters in each.
-pub fn halves(sets: Sets, count: usize, widths: &[u8], values: &mut [u8]) -> Answer
+pub fn halves(sets: Sets, count: usize, widths: &[u8], values: &mut [u8]) -> Result<usize, Refusal>
     requires count_bound { count ≤ 6 }
     requires values_len { length values.old ≡ count + count }
     ensures { FillsOwn (halves_in sets count widths.now) values.old result values.new }
 {
     let right_at = GUARD_WIDTHS + CHARACTER * count + CENTRE_WIDTHS;
     if widths.len() != right_at + CHARACTER * count + GUARD_WIDTHS {
-        return Answer::Refused(Refusal::Count);
+        return Err(Refusal::Count);
     }
     if !guarded(count, widths) {
-        return Answer::Refused(Refusal::Guard);
+        return Err(Refusal::Guard);
     }
-    let left = half(sets, 0, &widths[GUARD_WIDTHS..], &mut values[..count]);
-    let Answer::Done(_) = left else {
-        return left;
-    };
-    let right = half(Sets::C, count, &widths[right_at..], &mut values[count..]);
-    let Answer::Done(_) = right else {
-        return right;
-    };
-    Answer::Done(values.len())
+    half(sets, 0, &widths[GUARD_WIDTHS..], &mut values[..count])?;
+    half(Sets::C, count, &widths[right_at..], &mut values[count..])?;
+    Ok(values.len())
 }
 
 fn guarded(count: usize, widths: &[u8]) -> bool
@@ -43,31 +36,23 @@ fn guarded(count: usize, widths: &[u8]) -> bool
     let centre_at = GUARD_WIDTHS + CHARACTER * count;
     let right_at = centre_at + CENTRE_WIDTHS;
     let end = right_at + CHARACTER * count;
-    if !patterns::equal(&widths[..GUARD_WIDTHS], &tables::GUARD) {
-        return false;
-    }
-    if !patterns::equal(&widths[centre_at..right_at], &tables::CENTRE) {
-        return false;
-    }
-    patterns::equal(&widths[end..], &tables::GUARD)
+    patterns::equal(&widths[..GUARD_WIDTHS], &tables::GUARD)
+        && patterns::equal(&widths[centre_at..right_at], &tables::CENTRE)
+        && patterns::equal(&widths[end..], &tables::GUARD)
 }
 
 // The values of a half's characters, as many as there are places for; `place` is that of the first.
-pub fn half(sets: Sets, place: usize, widths: &[u8], values: &mut [u8]) -> Answer
+pub fn half(sets: Sets, place: usize, widths: &[u8], values: &mut [u8]) -> Result<usize, Refusal>
     requires values_in_bounds { 4 * length values.old ≤ length widths.now }
     requires place_bound { place ≤ 12 }
     ensures { FillsOwn (characters (patterns_of sets) 4 (length values.old) place widths.now) values.old result values.new }
 {
-    let mut i = 0;
-    while i < values.len() {
+    for i in 0..values.len() {
         let at = CHARACTER * i;
-        let Match::Value(value) = value_of(sets, &widths[at..at + CHARACTER]) else {
-            return Answer::Refused(Refusal::Pattern(place + i));
-        };
-        values[i] = value;
-        i += 1;
+        let character = &widths[at..at + CHARACTER];
+        values[i] = value_of(sets, character).ok_or(Refusal::Pattern(place + i))?;
     }
-    Answer::Done(i)
+    Ok(values.len())
 }
 
 // The value in sets A and B that has these widths: the first two, modulo 4 in base 4, choose the row, and the third the place in it.
@@ -92,19 +77,19 @@ const CANDIDATES: [[u8; 4]; 16] = [
 ];
 
 // The value of four widths in the sets of their half.
-fn value_of(sets: Sets, widths: &[u8]) -> Match
+fn value_of(sets: Sets, widths: &[u8]) -> Option<u8>
     requires { length widths.now ≡ 4 }
     ensures { result ≡ match_in (patterns_of sets) widths.now }
 {
     let value = candidate(widths);
     if sets.count() <= value as usize {
-        return Match::Nothing;
+        return None;
     }
     let pattern = tables::pattern(sets, value as usize);
     if patterns::equal(&pattern, widths) {
-        Match::Value(value)
+        Some(value)
     } else {
-        Match::Nothing
+        None
     }
 }
 

@@ -1,43 +1,45 @@
 -- A message, an element string at a time, as a loop that counts them meets it: the strings passed, and the rule from where it stands.
-use Prim.Native.Nat.{ℕ, suc, ◌+◌}
+use Rattle.std.specs.Prelude.{Result, Ok, Err, Err as NotFound}
+use Prim.Native.Nat.{ℕ, suc, ◌+◌, ◌≤◌}
 use mathlib.Core.Path.{◌≡◌, refl, sym, ap, ◌∙◌}
 use mathlib.Core.Bool.{Bool, true, false, cond}
 use mathlib.Core.List.{List, [], ◌∷◌, ◌++◌}
 use native.Mathlib.Nat.{zero-add}
 use native.Mathlib.Omega.{arith}
 use lib.ListN.{length}
-use Rattle.refusal.specs.declared.Answer.{Answer}
-use Rattle.refusal.specs.declared.Answer.TheVariants.{Done, Refused}
 use Rattle.refusal.specs.declared.Refusal.{Refusal}
 use Rattle.refusal.specs.declared.Refusal.TheVariants.{Repeated}
 use Rattle.refusal.specs.Outcome.{Outcome, made, refused, ◌>>=◌}
-use Rattle.refusal.specs.Fills.{answer_of}
+use Rattle.refusal.specs.Fills.{answer_of, answered}
 use Rattle.elements.specs.declared.Element.{Element}
-use Rattle.elements.specs.declared.Found.TheVariants.{String, Refused as NotFound}
 use Rattle.laws.specs.Among.{among}
 use Rattle.elements.specs.Strings.{string_at, strings_from}
-use Rattle.elements.specs.Found.{found_of}
+use Rattle.elements.proofs.StringLaws.{next_within}
 
 -- the answer where so many strings have been passed
-abbrev pub counted : ℕ → Outcome (List Element) → Answer
-counted n (made strings) = Done (n + length strings)
-counted n (refused f) = Refused f
+abbrev pub counted : ℕ → Outcome (List Element) → Result ℕ Refusal
+counted n (made strings) = Ok (n + length strings)
+counted n (refused f) = Err f
 
 pub counted_none : (o : Outcome (List Element)) → answer_of o ≡ counted 0 o
-counted_none (made strings) = ap Done (sym (zero-add (length strings)))
+counted_none (made strings) = ap Ok (sym (zero-add (length strings)))
 counted_none (refused f) = refl
 
 counted_more : (n : ℕ) (string : Element) (o : Outcome (List Element)) → counted n (o >>= (λ (rest : List Element). made (string ∷ rest))) ≡ counted (n + 1) o
-counted_more n string (made strings) = ap Done (omega arith)
+counted_more n string (made strings) = ap Ok (omega arith)
 counted_more n string (refused f) = refl
 
-pub found_string : (o : Outcome Element) (string : Element) → String string ≡ found_of o → o ≡ made string
+pub found_string : (o : Outcome Element) (string : Element) → Ok string ≡ answered o → o ≡ made string
 found_string (made s) string e = cc
 found_string (refused f) string e = absurd (let z : ◌≡◌ {A = ℕ} 0 1 = cc in omega arith)
 
-pub found_refused : (o : Outcome Element) (f : Refusal) → NotFound f ≡ found_of o → o ≡ refused f
+pub found_refused : (o : Outcome Element) (f : Refusal) → NotFound f ≡ answered o → o ≡ refused f
 found_refused (made s) f e = absurd (let z : ◌≡◌ {A = ℕ} 0 1 = cc in omega arith)
 found_refused (refused g) f e = cc
+
+-- a loop that stands at a string which another one follows has a next place, four bytes on or more
+pub found_next : (message : List ℕ) (at : ℕ) (string : Element) → at ≤ length message → Ok string ≡ answered (string_at message at) → string.last ≡ false → (string.next ≤ length message) × (at + 4 ≤ string.next)
+found_next message at string within e goes = next_within message at string within (found_string (string_at message at) string e) goes
 
 module _ (k : ℕ) (message : List ℕ) (place : ℕ) (used : List ℕ) where
   pub from_refused : (f : Refusal) → string_at message place ≡ refused f → strings_from (suc k) message place used ≡ refused f

@@ -1,10 +1,10 @@
 -- A message, cut where its element strings end: the digits of the identifier, the data, what closes it, and the rest from where the next
 -- string begins.
+use Rattle.std.specs.Prelude.{Some}
 use Prim.Native.Nat.{ℕ, ◌+◌, ◌-◌, ◌≤◌, ◌<◌}
 use mathlib.Core.Path.{◌≡◌, refl, sym, ap, ap₂, ◌∙◌, subst}
 use mathlib.Core.Bool.{Bool, true, false, cond, not}
 use mathlib.Core.List.{List, [], ◌∷◌, ◌++◌}
-use mathlib.Core.Option.{some}
 use native.Mathlib.Numerals.{add-one}
 use native.Mathlib.Omega.{arith}
 use lib.ListN.{length, get_or, take, drop, take-append-drop, length-drop, drop_of_length-le}
@@ -23,7 +23,7 @@ use Rattle.elements.specs.Messages.{Right, closing, string_of}
 use Rattle.identifiers.proofs.ListedLaws.{listed_found}
 use Rattle.elements.proofs.StringLaws.{data_part, data_within, data_to_separator, FoundAt, begin_within}
 
-pub closing_is : (x : ℕ) (kind : Kind) → kind_of x ≡ some kind → closing x ≡ cond kind.predefined [] (separator ∷ [])
+pub closing_is : (x : ℕ) (kind : Kind) → kind_of x ≡ Some kind → closing x ≡ cond kind.predefined [] (separator ∷ [])
 unfolding closing
 closing_is x kind e = rw e
 

@@ -1,10 +1,10 @@
 -- Every message is accepted, with its own strings: where the bytes from a place on are strings joined, the rule finds the first of them
 -- there, and the others from where it says that the next must begin.
+use Rattle.std.specs.Prelude.{Option, Some, None}
 use Prim.Native.Nat.{ℕ, zero, suc, ◌+◌, ◌≤◌}
 use mathlib.Core.Path.{◌≡◌, refl, sym, ap, ap₂, ◌∙◌}
 use mathlib.Core.Bool.{Bool, true, false, cond, ◌||◌}
 use mathlib.Core.List.{List, [], ◌∷◌, ◌++◌, map}
-use mathlib.Core.Option.{Option, some, none}
 use native.Mathlib.Nat.{le_of_suc-le-suc, not-suc-le-zero}
 use native.Mathlib.Omega.{arith}
 use lib.ListN.{length, drop, length-append, length-drop}
@@ -132,8 +132,8 @@ closing_short x = go (kind_of x)
     either false = omega arith
 
     go : (o : Option Kind) → length (closing_of o) ≤ 1
-    go none = omega arith
-    go (some kind) = either kind.predefined
+    go None = omega arith
+    go (Some kind) = either kind.predefined
 
 -- nothing closes the last
 pub bytes_most : (s : ElementString) (ss : List ElementString) → bytes_of (s ∷ ss) ≤ length (joined (s ∷ ss)) + 1
@@ -205,7 +205,7 @@ parsed_of_message message s ss m =
     (b.elements, b.found, b.same)
 
 -- every byte of strings that are joined is one that a message may have
-spelled_bytes : (x : ℕ) (kind : Kind) → kind_of x ≡ some kind → first_not is_message_byte (spelled x) ≡ length (spelled x)
+spelled_bytes : (x : ℕ) (kind : Kind) → kind_of x ≡ Some kind → first_not is_message_byte (spelled x) ≡ length (spelled x)
 spelled_bytes x kind is =
     pass_also is_digit is_message_byte (λ b d. message_byte b (digit_of_82 b d)) (spelled x) (spelling_of x (listed_if_kind x kind is)).all_digits
 

@@ -1,10 +1,10 @@
 -- Right data has no separator in it and no byte that a message can't have; so the bytes of strings that are joined are a message's, and
 -- data runs to the separator that was put after it, or to the end.
+use Rattle.std.specs.Prelude.{Some}
 use Prim.Native.Nat.{ℕ, ◌≤◌}
 use mathlib.Core.Path.{◌≡◌, refl, sym}
 use mathlib.Core.Bool.{Bool, true, false, cond, not, ◌&&◌}
 use mathlib.Core.List.{List, [], ◌∷◌, ◌++◌}
-use mathlib.Core.Option.{some}
 use native.Mathlib.Omega.{arith}
 use lib.ListN.{length, take}
 use lib.Seq.{take_all, take_at}
@@ -53,7 +53,7 @@ all_one : all_rows one_length table ≡ true
 unfolding one_length table
 all_one = refl
 
-one_length_lem : (x : ℕ) (kind : Kind) → kind_of x ≡ some kind → kind.predefined ≡ true → kind.least ≡ kind.most
+one_length_lem : (x : ℕ) (kind : Kind) → kind_of x ≡ Some kind → kind.predefined ≡ true → kind.least ≡ kind.most
 unfolding kind_of one_length
 one_length_lem x kind e is = eqb-true _ _ (rw is at (kind_passes one_length table all_one x kind e))
 
@@ -71,7 +71,7 @@ module _ (kind : Kind) (bytes : List ℕ) (s : Sound kind bytes) where
       go false = take_all (to_separator bytes) bytes (omega (arith, plain))
 
   -- data that something follows
-  pub data_before : (x : ℕ) → kind_of x ≡ some kind → (more : List ℕ) → data_of kind (bytes ++ (cond kind.predefined [] (separator ∷ []) ++ more)) ≡ bytes
+  pub data_before : (x : ℕ) → kind_of x ≡ Some kind → (more : List ℕ) → data_of kind (bytes ++ (cond kind.predefined [] (separator ∷ []) ++ more)) ≡ bytes
   unfolding data_of to_separator
   data_before x is more = go kind.predefined refl
     where

@@ -1,11 +1,11 @@
 -- One element string where one must begin: what the rule's lines leave, read forwards for the call that follows them and backwards for
 -- what is known of a string that was found.
+use Rattle.std.specs.Prelude.{Some, None, Option, min}
 use Prim.Native.Nat.{ℕ, zero, suc, ◌+◌, ◌-◌, ◌≤◌, ◌<◌}
 use mathlib.Core.Path.{◌≡◌, refl, sym, ap, ◌∙◌, subst}
 use mathlib.Core.Bool.{Bool, true, false, cond, not, ◌&&◌}
 use mathlib.Core.List.{List, [], ◌∷◌}
-use mathlib.Core.Option.{Option, some, none}
-use native.Mathlib.Nat.{add-sub_cancel_left, le_of_lt}
+use native.Mathlib.Nat.{le_of_lt}
 use native.Mathlib.Omega.{arith}
 use lib.ListN.{length, take, drop, length-append, length-take, length-drop, drop_of_length-le}
 use lib.Seq.{take_all}
@@ -19,7 +19,6 @@ use Rattle.refusal.specs.Outcome.{made, refused}
 use Rattle.refusal.proofs.OutcomeLaws.{must_made, bind_made, made_same}
 use Rattle.elements.specs.declared.Element.{Element}
 use Rattle.identifiers.specs.declared.Kind.{Kind}
-use Rattle.identifiers.specs.declared.Row.TheVariants.{Listed, Unlisted}
 use Rattle.character_set_82.specs.Characters.{separator, to_separator}
 use Rattle.patterns.specs.Patterns.{same}
 use Rattle.identifiers.specs.Identifiers.{measures, table, kind_of, spelled, first_of, identifiers_of, listed, identifier_in}
@@ -49,16 +48,12 @@ module _ (kind : Kind) (bytes : List ℕ) where
   unfolding data_of to_separator
   data_to_separator e = rw e (let within = first_within (λ (b : ℕ). not (eqb b separator)) bytes in length-take (to_separator bytes) bytes ∙ omega arith)
 
-  pub data_of_short : kind.predefined ≡ true → length bytes ≤ kind.most → length (data_of kind bytes) ≡ length bytes
+  pub data_of_predefined : kind.predefined ≡ true → length (data_of kind bytes) ≡ min kind.most (length bytes)
   unfolding data_of
-  data_of_short e h = rw e (length-take kind.most bytes ∙ omega arith)
-
-  pub data_of_long : kind.predefined ≡ true → kind.most ≤ length bytes → length (data_of kind bytes) ≡ kind.most
-  unfolding data_of
-  data_of_long e h = rw e (length-take kind.most bytes ∙ omega arith)
+  data_of_predefined e = rw e (length-take kind.most bytes)
 
 -- past the end of the message no identifier begins
-no_identifier : identifier_in [] ≡ none
+no_identifier : identifier_in [] ≡ None
 unfolding identifier_in first_of listed identifiers_of table measures spelled same
 no_identifier = refl
 
@@ -66,29 +61,29 @@ pub string_past_end : (message : List ℕ) (at : ℕ) → length message < at �
 unfolding string_at
 string_past_end message at h = rw (drop_of_length-le message (le_of_lt h), no_identifier)
 
-pub row_listed : (bytes : List ℕ) (x : ℕ) (kind : Kind) → row_at bytes ≡ Listed x kind → (identifier_in bytes ≡ some x) × (kind_of x ≡ some kind)
+pub row_listed : (bytes : List ℕ) (x : ℕ) (kind : Kind) → row_at bytes ≡ Some (x, kind) → (identifier_in bytes ≡ Some x) × (kind_of x ≡ Some kind)
 unfolding row_at
 row_listed bytes x kind e = go (identifier_in bytes) e
   where
-    go : (o : Option ℕ) → row_in o ≡ Listed x kind → (o ≡ some x) × (kind_of x ≡ some kind)
-    go none e = absurd (let z : ◌≡◌ {A = ℕ} 0 1 = cc in omega arith)
-    go (some y) e =
+    go : (o : Option ℕ) → row_in o ≡ Some (x, kind) → (o ≡ Some x) × (kind_of x ≡ Some kind)
+    go None e = absurd (let z : ◌≡◌ {A = ℕ} 0 1 = cc in omega arith)
+    go (Some y) e =
         let known = kind_of_row y x kind e in
-        (ap some known.0, rw known.0 at known.1)
+        (ap Some known.0, rw known.0 at known.1)
 
 module _ (message : List ℕ) (at : ℕ) where
   pub rest_of : take (length message - at) (drop at message) ≡ drop at message
   rest_of = take_all (length message - at) (drop at message) (rw length-drop (omega arith))
 
-  pub string_unlisted : row_at (drop at message) ≡ Unlisted → string_at message at ≡ refused (Identifier at)
+  pub string_unlisted : row_at (drop at message) ≡ None → string_at message at ≡ refused (Identifier at)
   unfolding string_at row_at
   string_unlisted e = go (identifier_in (drop at message)) refl e
     where
-      go : (o : Option ℕ) → identifier_in (drop at message) ≡ o → row_in o ≡ Unlisted → string_at message at ≡ refused (Identifier at)
-      go none p e = rw p
-      go (some x) p e = rw (p, no_kind_of_row x e)
+      go : (o : Option ℕ) → identifier_in (drop at message) ≡ o → row_in o ≡ None → string_at message at ≡ refused (Identifier at)
+      go None p e = rw p
+      go (Some x) p e = rw (p, no_kind_of_row x e)
 
-  module _ (x : ℕ) (kind : Kind) (here : identifier_in (drop at message) ≡ some x) (is : kind_of x ≡ some kind) where
+  module _ (x : ℕ) (kind : Kind) (here : identifier_in (drop at message) ≡ Some x) (is : kind_of x ≡ Some kind) where
     pub begin_within : at ≤ length message → at + length (spelled x) ≤ length message
     begin_within h =
         omega (arith, ap length (listed_found (drop at message) x here).1, length-append (spelled x) (drop (length (spelled x)) (drop at message)), length-drop at message)
@@ -102,21 +97,21 @@ module _ (message : List ℕ) (at : ℕ) where
     string_right b e right = rw (e, here, is, rw e at right)
 
 -- the string that a call makes of its places
-pub element_is : (message : List ℕ) (x : ℕ) (kind : Kind) (b n next : ℕ) → n ≡ length (data_of kind (drop b message)) → next ≡ next_after kind (b + n) → ◌≡◌ {A = Element} (record { identifier = x; begin = b; length = b + n - b; next = next; last = eqb (b + n) (length message) }) (element_of message x kind b)
+pub element_is : (message : List ℕ) (x : ℕ) (kind : Kind) (b n next : ℕ) → n ≡ length (data_of kind (drop b message)) → next ≡ next_after kind (b + n) → ◌≡◌ {A = Element} (record { identifier = x; begin = b; length = n; next = next; last = eqb (b + n) (length message) }) (element_of message x kind b)
 unfolding element_of
-element_is message x kind b n next e is = rw (is, add-sub_cancel_left b n, e)
+element_is message x kind b n next e is = rw (is, e)
 
 -- what is known of a string that was found
 pub record FoundAt (message : List ℕ) (at : ℕ) (string : Element) : Type 0 where
   pub kind : Kind
-  pub here : identifier_in (drop at message) ≡ some string.identifier
-  pub listed : kind_of string.identifier ≡ some kind
+  pub here : identifier_in (drop at message) ≡ Some string.identifier
+  pub listed : kind_of string.identifier ≡ Some kind
   pub right : right_data kind (data_of kind (drop (at + length (spelled string.identifier)) message)) ≡ true
   pub made_of : string ≡ element_of message string.identifier kind (at + length (spelled string.identifier))
 
-pub given_made : {A : Type 0} (o : Option A) (f : Refusal) (a : A) → given o f ≡ made a → o ≡ some a
-given_made none f a e = absurd (let z : ◌≡◌ {A = ℕ} 0 1 = cc in omega arith)
-given_made (some b) f a e = cc
+pub given_made : {A : Type 0} (o : Option A) (f : Refusal) (a : A) → given o f ≡ made a → o ≡ Some a
+given_made None f a e = absurd (let z : ◌≡◌ {A = ℕ} 0 1 = cc in omega arith)
+given_made (Some b) f a e = cc
 
 pub string_found : (message : List ℕ) (at : ℕ) (string : Element) → string_at message at ≡ made string → FoundAt message at string
 unfolding string_at element_of

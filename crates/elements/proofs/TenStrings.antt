@@ -1,10 +1,10 @@
 -- Ten is the most strings that 48 bytes hold: six identifiers have strings of four bytes with what closes them, four of five, every other
 -- one of eight or more, and each occurs once; so n strings take 8 n bytes less 4 for each of the six and 3 for each of the four.
+use Rattle.std.specs.Prelude.{Option, Some, None}
 use Prim.Native.Nat.{ℕ, ◌+◌, ◌*◌, ◌≤◌}
 use mathlib.Core.Path.{◌≡◌, refl, sym, ap}
 use mathlib.Core.Bool.{Bool, true, false, ◌||◌}
 use mathlib.Core.List.{List, [], ◌∷◌}
-use mathlib.Core.Option.{Option, some, none}
 use native.Mathlib.Omega.{arith}
 use lib.ListN.{length}
 use lib.Dec.{eqb, leb}
@@ -73,8 +73,8 @@ abbrev fives : List ℕ
 fives = 240 ∷ 241 ∷ 250 ∷ 400 ∷ []
 
 abbrev least_of : Option Kind → ℕ
-least_of (some kind) = kind.least
-least_of none = 0
+least_of (Some kind) = kind.least
+least_of None = 0
 
 eight : ℕ → Bool
 eight x = leb 8 (length (spelled x) + least_of (kind_of x) + length (closing x) + 4 * bit (among fours x) + 3 * bit (among fives x))

@@ -1,10 +1,10 @@
 -- The test of a message gives refusals 1, 2, 9, 10 and 11 and no other: each line of its rule gives its own. So where a rule begins with
 -- lines that give only these, an outcome of another kind says that they passed.
+use Rattle.std.specs.Prelude.{Option, Some, None}
 use Prim.Native.Nat.{ℕ, zero, suc, ◌+◌}
 use mathlib.Core.Path.{◌≡◌, refl}
 use mathlib.Core.Bool.{Bool, true, false, cond, not, ◌&&◌}
 use mathlib.Core.List.{List, [], ◌∷◌, ◌++◌}
-use mathlib.Core.Option.{Option, some, none}
 use native.Mathlib.Omega.{arith}
 use lib.ListN.{length, drop}
 use lib.Dec.{eqb, leb}
@@ -49,8 +49,8 @@ module _ (numbers : List ℕ) where
     only_must false g rest own later = only_refused g own
 
     pub only_given : (o : Option A) (g : Refusal) → among numbers (number_of g) ≡ true → Only (given o g)
-    only_given (some a) g own = only_made a
-    only_given none g own = only_refused g own
+    only_given (Some a) g own = only_made a
+    only_given None g own = only_refused g own
 
     only_cond : (b : Bool) (o p : Outcome A) → Only o → Only p → Only (cond b o p)
     only_cond true o p first second = first

@@ -1,15 +1,8 @@
--- What the calls answer that look for one element string.
+-- What the call answers that looks for one element string.
 use Rattle.std.specs.Prelude.{ℕ, cond, List, [], ◌∷◌, eqb}
 use Rattle.refusal.specs.declared.Refusal.TheVariants.{Absent}
 use Rattle.refusal.specs.Outcome.{Outcome, made, refused}
 use Rattle.elements.specs.declared.Element.{Element}
-use Rattle.elements.specs.declared.Found.{Found}
-use Rattle.elements.specs.declared.Found.TheVariants.{String, Refused}
-
--- the element string that a rule made, or its refusal
-abbrev pub found_of : Outcome Element → Found
-found_of (made string) = String string
-found_of (refused f) = Refused f
 
 -- the string of an identifier, or else the last string
 unfoldable pub sought : ℕ → List Element → Outcome Element

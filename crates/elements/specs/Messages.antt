@@ -1,8 +1,7 @@
 -- Document 01, "Element strings", as a relation: a message is element strings, each right by its row, all identifiers different, joined so
 -- that one separator stands between a string of variable length and its successor and nowhere else; 1 to 48 bytes. A blank is no data:
 -- it makes its string wrong, and is never left out.
-use Rattle.std.specs.Prelude.{ℕ, ◌≤◌, ◌≡◌, true, false, cond, List, [], ◌∷◌, ◌++◌, map, length, take, drop}
-use Rattle.std.proofs.Math.Option.{Option, some, none}
+use Rattle.std.specs.Prelude.{ℕ, ◌≤◌, ◌≡◌, true, false, cond, List, [], ◌∷◌, ◌++◌, map, length, take, drop, Option, Some, None}
 use Rattle.elements.specs.declared.Element.{Element}
 use Rattle.identifiers.specs.declared.Kind.{Kind}
 use Rattle.laws.specs.Among.{among}
@@ -17,7 +16,7 @@ pub record ElementString : Type 0 where
 -- right by the row of its identifier
 pub record Right (string : ElementString) : Type 0 where
   pub kind : Kind
-  pub listed : kind_of string.identifier ≡ some kind
+  pub listed : kind_of string.identifier ≡ Some kind
   pub right : right_data kind string.content ≡ true
 
 pub data AllRight : List ElementString → Type 0 where
@@ -33,8 +32,8 @@ pub data Different : List ElementString → Type 0 where
   different_more : {string : ElementString} {strings : List ElementString} → among (used_in strings) string.identifier ≡ false → Different strings → Different (string ∷ strings)
 
 abbrev pub closing_of : Option Kind → List ℕ
-closing_of (some kind) = cond kind.predefined [] (separator ∷ [])
-closing_of none = []
+closing_of (Some kind) = cond kind.predefined [] (separator ∷ [])
+closing_of None = []
 
 -- what stands after a string that has a successor
 unfoldable pub closing : ℕ → List ℕ

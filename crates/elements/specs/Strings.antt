@@ -1,8 +1,7 @@
 -- Document 01, "Element strings": one element string after the other. "The first four kinds, 20 and 310y to 316y have predefined length:
 -- exactly that many bytes, and the next identifier follows at once. The others run to the next separator or the end." The first bad
 -- element string decides among 9, 10 and 11, and of several faults of one string the lowest number.
-use Rattle.std.specs.Prelude.{ℕ, zero, suc, ◌+◌, cond, not, ◌&&◌, List, [], ◌∷◌, ◌++◌, length, take, drop, leb, eqb}
-use Rattle.std.proofs.Math.Option.{Option, some, none}
+use Rattle.std.specs.Prelude.{ℕ, zero, suc, ◌+◌, cond, not, ◌&&◌, List, [], ◌∷◌, ◌++◌, length, take, drop, leb, eqb, Option, Some, None}
 use Rattle.laws.specs.First.{first_not}
 use Rattle.refusal.specs.declared.Refusal.{Refusal}
 use Rattle.refusal.specs.declared.Refusal.TheVariants.{Count, Character, Identifier, Data, Repeated}
@@ -15,8 +14,8 @@ use Rattle.identifiers.specs.Identifiers.{kind_of, spelled, identifier_in}
 use Rattle.identifiers.specs.Data.{right_data}
 
 abbrev pub given : {A : Type 0} → Option A → Refusal → Outcome A
-given (some a) f = made a
-given none f = refused f
+given (Some a) f = made a
+given None f = refused f
 
 -- the data of a kind of element string, at the front of the bytes after its identifier
 unfoldable pub data_of : Kind → List ℕ → List ℕ

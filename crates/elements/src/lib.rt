@@ -3,14 +3,14 @@
 
 ghost use Rattle.std.specs.Prelude.{◌≡◌, List};
 ghost use Rattle.refusal.specs.Outcome.{made};
-ghost use Rattle.refusal.specs.Fills.{answer_of};
+ghost use Rattle.refusal.specs.Fills.{answer_of, answered};
 ghost use Rattle.elements.specs.declared.Element.{Element};
 ghost use Rattle.elements.specs.Strings.{string_at, parsed, tested};
-ghost use Rattle.elements.specs.Found.{found_of, sought};
+ghost use Rattle.elements.specs.Found.{sought};
 
-use character_set_82::Class;
-use identifiers::{Row, contents};
-use refusal::{Answer, Refusal};
+use character_set_82::is_message_byte;
+use identifiers::contents;
+use refusal::Refusal;
 
 mod messages;
 mod strings;
@@ -26,70 +26,52 @@ pub struct Element {
     pub last: bool,
 }
 
-// What stands where an element string must begin.
-#[derive(Clone, Copy)]
-pub enum Found {
-    String(Element),
-    Refused(Refusal),
-}
-
 // Tests a whole message: the count of its element strings, or refusal 1, 2, 9, 10 or 11.
-pub fn test(message: &[u8]) -> Answer
+pub fn test(message: &[u8]) -> Result<usize, Refusal>
     ensures { result ≡ answer_of (tested message.now) }
 {
-    if message.len() < 1 {
-        return Answer::Refused(Refusal::Count);
+    if !(1..=48).contains(&message.len()) {
+        return Err(Refusal::Count);
     }
-    if 48 < message.len() {
-        return Answer::Refused(Refusal::Count);
-    }
-    let place = character_set_82::first_not(Class::Message, message);
-    if place < message.len() {
-        return Answer::Refused(Refusal::Character(place));
+    if let Some(place) = message.iter().position(|byte| !is_message_byte(*byte)) {
+        return Err(Refusal::Character(place));
     }
     messages::count(message)
 }
 
 // The element string that must begin at a place, or refusal 9 or 10.
-pub fn string_at(message: &[u8], at: usize) -> Found
-    ensures { result ≡ found_of (string_at message.now at) }
+pub fn string_at(message: &[u8], at: usize) -> Result<Element, Refusal>
+    ensures { result ≡ answered (string_at message.now at) }
 {
     if message.len() < at {
-        return Found::Refused(Refusal::Identifier(at));
+        return Err(Refusal::Identifier(at));
     }
-    let Row::Listed(identifier, kind) = identifiers::row_at(&message[at..]) else {
-        return Found::Refused(Refusal::Identifier(at));
-    };
+    let (identifier, kind) = identifiers::row_at(&message[at..]).ok_or(Refusal::Identifier(at))?;
     let begin = at + identifiers::digits_of(identifier);
-    let end = begin + strings::data_length(kind, &message[begin..]);
+    let length = strings::data_length(kind, &message[begin..]);
+    let end = begin + length;
     if !contents::right_data(kind, &message[begin..end]) {
-        return Found::Refused(Refusal::Data(at));
+        return Err(Refusal::Data(at));
     }
-    let size = end - begin;
-    Found::String(Element {
+    Ok(Element {
         identifier,
         begin,
-        length: size,
+        length,
         next: strings::next_after(kind, end),
         last: end == message.len(),
     })
 }
 
 // The element string of an identifier, or else the last string, of a message that is right.
-pub fn sought(message: &[u8], identifier: usize) -> Found
-    ensures { (strings : List Element) → parsed message.now ≡ made strings → result ≡ found_of (sought identifier strings) }
+pub fn sought(message: &[u8], identifier: usize) -> Result<Element, Refusal>
+    ensures { (strings : List Element) → parsed message.now ≡ made strings → result ≡ answered (sought identifier strings) }
 {
     let mut at = 0;
+    // A `loop`: how far the next string is, only this one tells.
     loop {
-        let found = string_at(message, at);
-        let Found::String(element) = found else {
-            return found;
-        };
-        if element.identifier == identifier {
-            return found;
-        }
-        if element.last {
-            return found;
+        let element = string_at(message, at)?;
+        if element.identifier == identifier || element.last {
+            return Ok(element);
         }
         at = element.next;
     }

@@ -2,7 +2,7 @@
 ghost use Rattle.std.specs.Prelude.{◌≡◌, ◌+◌, ◌^◌, ◌<◌, length};
 ghost use Rattle.elements.specs.Strings.{data_of, next_after};
 
-use character_set_82::Class;
+use character_set_82::SEPARATOR;
 use identifiers::Kind;
 
 // How many bytes of data there are at the front of the bytes after an identifier: a predefined length, as far as the message goes, or
@@ -10,13 +10,14 @@ use identifiers::Kind;
 pub fn data_length(kind: Kind, bytes: &[u8]) -> usize
     ensures { result ≡ length (data_of kind bytes.now) }
 {
-    if !kind.predefined {
-        return character_set_82::first_not(Class::NoSeparator, bytes);
+    if kind.predefined {
+        kind.most.min(bytes.len())
+    } else {
+        bytes
+            .iter()
+            .position(|byte| *byte == SEPARATOR)
+            .unwrap_or(bytes.len())
     }
-    if bytes.len() < kind.most {
-        return bytes.len();
-    }
-    kind.most
 }
 
 // Where the string after one whose data ends at `end` must begin.

@@ -1,5 +1,6 @@
 -- The starts are the patterns from 103 on, and the patterns allowed after the start are those before: so the value that widths have in the
 -- whole table, where no two patterns are equal, says which they have in either part.
+use Rattle.std.specs.Prelude.{Some, None}
 use Prim.Native.Nat.{ℕ, ◌+◌, ◌≤◌, ◌<◌, min}
 use mathlib.Core.Path.{◌≡◌, refl, sym, ◌∙◌}
 use mathlib.Core.Bool.{not}
@@ -9,7 +10,6 @@ use lib.ListN.{length, get_or}
 use lib.Seq.{get_or-drop}
 use borrow.Author.Tests.{lt-ltb}
 use Rattle.laws.proofs.FirstLaws.{first_of_take, first_of_drop}
-use Rattle.patterns.specs.declared.Match.TheVariants.{Value, Nothing}
 use Rattle.patterns.specs.Patterns.{same, value_in}
 use Rattle.patterns.specs.Matching.{match_in}
 use Rattle.patterns.proofs.PatternLaws.{value_of, value_none}
@@ -48,12 +48,12 @@ module _ (widths : List ℕ) where
       ∙ starts_are
 
   -- after the start
-  pub allowed_found : (v : ℕ) → value ≡ v → v < 103 → Value v ≡ match_in allowed widths
+  pub allowed_found : (v : ℕ) → value ≡ v → v < 103 → Some v ≡ match_in allowed widths
   allowed_found v is h =
       let here : value_in allowed widths ≡ v = omega (arith, value_allowed) in
       rw (here, allowed_are, lt-ltb v 103 h)
 
-  pub allowed_missing : 103 ≤ value → Nothing ≡ match_in allowed widths
+  pub allowed_missing : 103 ≤ value → None ≡ match_in allowed widths
   allowed_missing h =
       let none : value_in allowed widths ≡ 103 = omega (arith, value_allowed) in
       rw (none, allowed_are)

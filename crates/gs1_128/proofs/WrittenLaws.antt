@@ -1,10 +1,9 @@
 -- The rule of writing, line by line: what the test of the message refuses, and what it lets through; and the characters of a best spelling
--- are few and all have patterns.
-use Prim.Native.Nat.{ℕ, ◌≤◌}
-use mathlib.Core.Path.{◌≡◌, sym, ap, subst}
+-- all have patterns.
+use Prim.Native.Nat.{ℕ}
+use mathlib.Core.Path.{◌≡◌, sym, subst}
 use mathlib.Core.List.{List, ◌∷◌, ◌++◌}
 use native.Mathlib.Omega.{arith}
-use lib.ListN.{length, length-append}
 use Rattle.laws.specs.Below.{Below}
 use Rattle.laws.proofs.BelowLaws.{below_more}
 use Rattle.refusal.specs.declared.Refusal.{Refusal}
@@ -17,7 +16,6 @@ use Rattle.patterns.specs.Patterns.{drawn}
 use Rattle.code128.specs.Characters.{patterns, stop}
 use Rattle.spelling.specs.Best.{best_spelling}
 use Rattle.code_sets.specs.Spelling.{Spelled}
-use Rattle.spelling.proofs.BestLaws.{best_short}
 use Rattle.spelling.proofs.BestSpelled.{best_is_spelled}
 use Rattle.gs1_128.specs.Symbol.{checked, symbol_of}
 use Rattle.gs1_128.specs.Rules.{writes}
@@ -40,11 +38,6 @@ module _ (message : List ℕ) {strings : List Element} (s : Accepted message str
   characters_have_patterns =
       subst (λ (l : List ℕ). Below 106 (checked l)) (sym spelled.is)
       (below_checked spelled.start (102 ∷ spelled.values) (omega (arith, spelled.most)) (below_more 103 102 spelled.values (omega arith) spelled.allowed))
-
-  pub characters_are_few : length (checked (best_spelling message)) ≤ 51
-  characters_are_few =
-      let few = best_short message in
-      rw spelled.is (simp length-append (omega (arith, few, ap length spelled.is, s.most)))
 
   pub symbol_of_best : symbol_of (best_spelling message) ≡ drawn patterns (checked (best_spelling message)) ++ stop
   unfolding symbol_of

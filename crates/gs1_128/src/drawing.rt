@@ -10,7 +10,7 @@ ghost use Rattle.spelling.specs.Best.{best_spelling};
 ghost use Rattle.gs1_128.specs.Symbol.{checked};
 
 use crate::Gs1128;
-use refusal::{Answer, Refusal};
+use refusal::Refusal;
 
 // The best spelling of a message and its check character: n + 2 characters in all.
 pub fn characters_of(message: &[u8], characters: &mut [u8]) -> usize
@@ -27,7 +27,7 @@ pub fn characters_of(message: &[u8], characters: &mut [u8]) -> usize
 }
 
 // Draws n + 2 characters and the stop: 6n + 19 widths, if there is room for them.
-pub fn draw(characters: &[u8], widths: &mut [u8]) -> Answer
+pub fn draw(characters: &[u8], widths: &mut [u8]) -> Result<usize, Refusal>
     requires characters_len_bound { length characters.now ≤ 51 }
     requires below { Below 106 characters.now }
     ensures { Fills (laying (drawn patterns characters.now ++ stop) (length widths.old)) widths.old result widths.new }
@@ -35,12 +35,11 @@ pub fn draw(characters: &[u8], widths: &mut [u8]) -> Answer
     let end = Gs1128::CHARACTER * characters.len();
     let count = end + Gs1128::STOP_WIDTHS;
     if widths.len() < count {
-        return Answer::Refused(Refusal::Room);
+        return Err(Refusal::Room);
     }
-    draw_characters(characters, &mut widths[0..end]);
-    let stop = code128::characters::STOP;
-    refusal::lay(&stop, &mut widths[end..count]);
-    Answer::Done(count)
+    draw_characters(characters, &mut widths[..end]);
+    widths[end..count].copy_from_slice(&Gs1128::STOP);
+    Ok(count)
 }
 
 // Lends six places on for each character.
@@ -50,13 +49,9 @@ fn draw_characters(characters: &[u8], to: &mut [u8])
     requires to_len { length to.old ≡ 6 * length characters.now }
     ensures { to.new ≡ drawn patterns characters.now }
 {
-    let mut i = 0;
-    while i < characters.len() {
+    for (i, character) in characters.iter().enumerate() {
         let at = Gs1128::CHARACTER * i;
-        code128::characters::put_pattern(
-            characters[i] as usize,
-            &mut to[at..at + Gs1128::CHARACTER],
-        );
-        i += 1;
+        let part = &mut to[at..at + Gs1128::CHARACTER];
+        code128::characters::put_pattern(*character as usize, part);
     }
 }

@@ -8,7 +8,7 @@ ghost use Rattle.gs1_128.specs.Symbol.{permitted};
 ghost use Rattle.gs1_128.specs.Scanning.{values_in, judged_values};
 ghost use Rattle.gs1_128.specs.Rules.{message_from, message_in, reads, writes};
 
-use refusal::{Answer, Refusal};
+use refusal::Refusal;
 
 mod drawing;
 mod scanning;
@@ -51,20 +51,17 @@ impl Gs1128 {
     pub const FNC1: u8 = 102;
 
     // Draws a message in its best spelling; or refuses the message, with 1, 2, 9, 10 or 11, or the room, with 12.
-    pub fn write(message: &[u8], widths: &mut [u8]) -> Answer
+    pub fn write(message: &[u8], widths: &mut [u8]) -> Result<usize, Refusal>
         ensures { Fills (writes message.now (length widths.old)) widths.old result widths.new }
     {
-        let tested = elements::test(message);
-        let Answer::Done(_) = tested else {
-            return tested;
-        };
+        elements::test(message)?;
         let mut characters = [0u8; Gs1128::WRITTEN_CHARACTERS];
         let count = drawing::characters_of(message, &mut characters);
-        drawing::draw(&characters[0..count], widths)
+        drawing::draw(&characters[..count], widths)
     }
 
     // Reads a symbol: refusals 1, 4, 5, 6, 7, 8, those of the message, 9, 10 and 11, and 12; or the message.
-    pub fn read(widths: &[u8], message: &mut [u8]) -> Answer
+    pub fn read(widths: &[u8], message: &mut [u8]) -> Result<usize, Refusal>
         ensures { Fills (reads widths.now (length message.old)) message.old result message.new }
     {
         let mut text = [0u8; Gs1128::BYTES];
@@ -72,46 +69,34 @@ impl Gs1128 {
     }
 
     // Makes the message in a list of the call's own, and lays it in the lent one last.
-    fn read_in(widths: &[u8], text: &mut [u8], message: &mut [u8]) -> Answer
-        requires { length text.old ≡ 48 }
+    fn read_in(widths: &[u8], text: &mut [u8; 48], message: &mut [u8]) -> Result<usize, Refusal>
         ensures { Fills (reads widths.now (length message.old)) message.old result message.new }
     {
-        let read = Gs1128::message_in(widths, text);
-        let Answer::Done(count) = read else {
-            return read;
-        };
+        let count = Gs1128::message_in(widths, text)?;
         refusal::lay(&text[..count], message)
     }
 
     // The message that widths hold, in a list of the call's own.
-    fn message_in(widths: &[u8], text: &mut [u8]) -> Answer
-        requires { length text.old ≡ 48 }
+    fn message_in(widths: &[u8], text: &mut [u8; 48]) -> Result<usize, Refusal>
         ensures { FillsOwn (message_in widths.now) text.old result text.new }
     {
         if !Gs1128::permits(widths.len()) {
-            return Answer::Refused(Refusal::Count);
+            return Err(Refusal::Count);
         }
-        let started = scanning::start_of(widths);
-        let Answer::Done(start) = started else {
-            return started;
-        };
+        let start = scanning::start_of(widths)?;
         let symbol = Gs1128::of_widths(start, widths.len());
         let end = symbol.count + 1;
         let mut values = [0u8; Gs1128::CHARACTERS + 1];
-        symbol.message(widths, &mut values[0..end], text)
+        symbol.message(widths, &mut values[..end], text)
     }
 
     // Whether a symbol can have so many widths.
     pub fn permits(widths: usize) -> bool
         ensures { result ≡ permitted widths }
     {
-        if widths < Gs1128::LEAST {
-            return false;
-        }
-        if Gs1128::MOST < widths {
-            return false;
-        }
-        (widths - Gs1128::ENDS) % Gs1128::CHARACTER == 0
+        Gs1128::LEAST <= widths
+            && widths <= Gs1128::MOST
+            && (widths - Gs1128::ENDS) % Gs1128::CHARACTER == 0
     }
 
     // The symbol of so many widths that has this start.
@@ -127,24 +112,17 @@ impl Gs1128 {
     }
 
     // The symbol's message, once its values stand in a list of the call's own: refusals 5 to 11.
-    fn message(self, widths: &[u8], own: &mut [u8], text: &mut [u8]) -> Answer
+    fn message(self, widths: &[u8], own: &mut [u8], text: &mut [u8; 48]) -> Result<usize, Refusal>
         requires start_bound { self.start < 106 }
         requires le_count { (2 ≤ self.count) × (self.count ≤ 100) }
         requires widths_len { length widths.now ≡ 6 * self.count + 19 }
         requires own_len { length own.old ≡ self.count + 1 }
-        requires text_len { length text.old ≡ 48 }
         ensures { FillsOwn (values_in widths.now then (λ values. judged_values self.start values then message_from self.start)) text.old result text.new }
     {
         let start = self.start;
         let count = self.count;
-        let scanned = scanning::values_in(widths, own);
-        let Answer::Done(_) = scanned else {
-            return scanned;
-        };
-        let judged = values::judged(start, own);
-        let Answer::Done(_) = judged else {
-            return judged;
-        };
+        scanning::values_in(widths, own)?;
+        values::judged(start, own)?;
         values::message_from(start, &own[1..count], text)
     }
 }

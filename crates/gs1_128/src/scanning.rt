@@ -6,59 +6,49 @@ ghost use Rattle.gs1_128.specs.Symbol.{allowed};
 ghost use Rattle.gs1_128.specs.Scanning.{start_in, values_in};
 
 use crate::Gs1128;
-use patterns::Match;
-use refusal::{Answer, Refusal};
+use refusal::Refusal;
 
 // The start of widths that begin with one and end with the stop.
-pub fn start_of(widths: &[u8]) -> Answer
+pub fn start_of(widths: &[u8]) -> Result<usize, Refusal>
     requires { 31 ≤ length widths.now }
     ensures { result ≡ answered (start_in widths.now) }
 {
-    let found = code128::characters::value_of(&widths[0..Gs1128::CHARACTER]);
-    let Match::Value(start) = found else {
-        return Answer::Refused(Refusal::Guard);
-    };
+    let front = &widths[..Gs1128::CHARACTER];
+    let start = code128::characters::value_of(front).ok_or(Refusal::Guard)?;
     if start < Gs1128::LEAST_START {
-        return Answer::Refused(Refusal::Guard);
+        return Err(Refusal::Guard);
     }
-    let stop = Gs1128::STOP;
     let at = widths.len() - Gs1128::STOP_WIDTHS;
-    if !patterns::equal(&widths[at..], &stop) {
-        return Answer::Refused(Refusal::Guard);
+    if !patterns::equal(&widths[at..], &Gs1128::STOP) {
+        return Err(Refusal::Guard);
     }
-    Answer::Done(start as usize)
+    Ok(start as usize)
 }
 
 // The values of the characters from the first FNC1 to the check, one to a place. The start is character 0.
-pub fn values_in(widths: &[u8], values: &mut [u8]) -> Answer
+pub fn values_in(widths: &[u8], values: &mut [u8]) -> Result<usize, Refusal>
     requires widths_len { length widths.now ≡ 6 * length values.old + 13 }
     requires in_bounds { 1 ≤ length values.old }
     ensures { FillsOwn (values_in widths.now) values.old result values.new }
 {
-    let mut i = 0;
-    while i < values.len() {
+    for i in 0..values.len() {
         let place = i + 1;
         let at = Gs1128::CHARACTER * place;
-        let Match::Value(value) = allowed_value(&widths[at..at + Gs1128::CHARACTER]) else {
-            return Answer::Refused(Refusal::Pattern(place));
-        };
-        values[i] = value;
-        i += 1;
+        let part = &widths[at..at + Gs1128::CHARACTER];
+        values[i] = allowed_value(part).ok_or(Refusal::Pattern(place))?;
     }
-    Answer::Done(i)
+    Ok(values.len())
 }
 
 // The value of six widths, if it is allowed after the start.
-fn allowed_value(part: &[u8]) -> Match
+fn allowed_value(part: &[u8]) -> Option<u8>
     requires { length part.now ≡ 6 }
     ensures { result ≡ match_in allowed part.now }
 {
-    let found = code128::characters::value_of(part);
-    let Match::Value(value) = found else {
-        return found;
-    };
+    let value = code128::characters::value_of(part)?;
     if Gs1128::LEAST_START <= value {
-        return Match::Nothing;
+        None
+    } else {
+        Some(value)
     }
-    found
 }

@@ -5,36 +5,29 @@ ghost use Rattle.gs1_128.specs.Scanning.{judged_values};
 ghost use Rattle.gs1_128.specs.Rules.{message_from};
 
 use crate::Gs1128;
-use refusal::{Answer, Refusal};
+use refusal::Refusal;
 
 // Judges the values from the first FNC1 to the check: how many stand between the two, or refusal 6 or 7.
-pub fn judged(start: usize, values: &[u8]) -> Answer
+pub fn judged(start: usize, values: &[u8]) -> Result<usize, Refusal>
     requires start_bound { start < 106 }
     requires in_bounds { (2 ≤ length values.now) × (length values.now ≤ 101) }
     ensures { result ≡ answer_of (judged_values start values.now) }
 {
     let last = values.len() - 1;
     if values[last] as usize != code128::check::check_of(start, &values[0..last]) {
-        return Answer::Refused(Refusal::CheckCharacter);
+        return Err(Refusal::CheckCharacter);
     }
     if values[0] != Gs1128::FNC1 {
-        return Answer::Refused(Refusal::FirstCharacter);
+        return Err(Refusal::FirstCharacter);
     }
-    Answer::Done(last - 1)
+    Ok(last - 1)
 }
 
 // The message that a start and the values after the first FNC1 spell, in a list of the caller's own: or refusal 8, 9, 10 or 11.
-pub fn message_from(start: usize, values: &[u8], text: &mut [u8]) -> Answer
-    requires { length text.old ≡ 48 }
+pub fn message_from(start: usize, values: &[u8], text: &mut [u8; 48]) -> Result<usize, Refusal>
     ensures { FillsOwn (message_from start values.now) text.old result text.new }
 {
-    let read = code_sets::text_of(start, values, text);
-    let Answer::Done(count) = read else {
-        return read;
-    };
-    let tested = elements::test(&text[..count]);
-    let Answer::Done(_) = tested else {
-        return tested;
-    };
-    read
+    let count = code_sets::text_of(start, values, text)?;
+    elements::test(&text[..count])?;
+    Ok(count)
 }

@@ -1,10 +1,10 @@
 -- The first two digits of an identifier decide how many it has: so the only identifier that some bytes can begin with is the number of
 -- that many digits, and they begin with it exactly where it is listed.
+use Rattle.std.specs.Prelude.{None, Option, Some}
 use Prim.Native.Nat.{ℕ, suc, ◌+◌, ◌-◌, ◌*◌, ◌≤◌, ◌<◌}
 use mathlib.Core.Path.{◌≡◌, refl, sym, ap, ap₂, ◌∙◌, subst}
 use mathlib.Core.Bool.{Bool, true, false, cond, ◌&&◌}
 use mathlib.Core.List.{List, [], ◌∷◌, ◌++◌}
-use mathlib.Core.Option.{Option, some, none}
 use native.Mathlib.Omega.{arith}
 use lib.ListN.{length, get_or, take, drop, length-take, take-append-drop, get_or-append}
 use lib.Seq.{take-append-add, take_at, get_or-take}
@@ -17,7 +17,6 @@ use Rattle.laws.proofs.Listed.{listed_front}
 use Rattle.digits.specs.Digit.{is_digit, value_of}
 use Rattle.digits.proofs.DigitLaws.{digit_range}
 use Rattle.identifiers.specs.declared.Kind.{Kind}
-use Rattle.identifiers.specs.declared.Row.TheVariants.{Unlisted}
 use Rattle.laws.specs.Among.{place_in, among}
 use Rattle.identifiers.specs.Identifiers.{measures, table, kind_of, spelled, identifiers_of, listed, identifier_in}
 use Rattle.identifiers.specs.Rows.{digits_after, with_kind, row_of, row_in, row_at}
@@ -56,12 +55,12 @@ spelling_of x e =
     record { all_digits = eqb-true _ _ d.0; decided = eqb-true _ _ d.1; two = leb-true _ _ c.1; four = leb-true _ _ b.1; small = leb-true _ _ a.1 }
 
 -- so a number of five digits or more has no kind
-pub no_kind_of_large : (n : ℕ) → 10000 ≤ n → kind_of n ≡ none
+pub no_kind_of_large : (n : ℕ) → 10000 ≤ n → kind_of n ≡ None
 no_kind_of_large n h = go (kind_of n) refl
   where
-    go : (o : Option Kind) → kind_of n ≡ o → o ≡ none
-    go none p = refl
-    go (some kind) p = absurd (omega (arith, (spelling_of n (listed_if_kind n kind p)).small))
+    go : (o : Option Kind) → kind_of n ≡ o → o ≡ None
+    go None p = refl
+    go (Some kind) p = absurd (omega (arith, (spelling_of n (listed_if_kind n kind p)).small))
 
 -- what is known of bytes that begin with a listed identifier
 pub record Begun (bytes : List ℕ) (x : ℕ) : Type 0 where
@@ -84,19 +83,19 @@ begun_of x rest e =
       run = rw four (omega (arith, first_of_append is_digit (spelled x) (take (4 - length (spelled x)) rest) s.all_digits));
     }
 
-pub begun : (bytes : List ℕ) (x : ℕ) → identifier_in bytes ≡ some x → Begun bytes x
+pub begun : (bytes : List ℕ) (x : ℕ) → identifier_in bytes ≡ Some x → Begun bytes x
 begun bytes x e =
     let found = listed_found bytes x e in
     subst (λ (b : List ℕ). Begun b x) (sym found.1) (begun_of x (drop (length (spelled x)) bytes) found.0)
 
 -- too few digits for the first two
-pub too_short : (bytes : List ℕ) → first_not is_digit (take 4 bytes) < digits_after (pair_at bytes 0) → row_at bytes ≡ Unlisted
+pub too_short : (bytes : List ℕ) → first_not is_digit (take 4 bytes) < digits_after (pair_at bytes 0) → row_at bytes ≡ None
 unfolding row_at
 too_short bytes h = go (identifier_in bytes) refl
   where
-    go : (o : Option ℕ) → identifier_in bytes ≡ o → row_in o ≡ Unlisted
-    go none e = refl
-    go (some x) e = absurd (let b = begun bytes x e in omega (arith, b.decided, b.run))
+    go : (o : Option ℕ) → identifier_in bytes ≡ o → row_in o ≡ None
+    go None e = refl
+    go (Some x) e = absurd (let b = begun bytes x e in omega (arith, b.decided, b.run))
 
 -- else the number of so many digits decides
 pub decided : (bytes : List ℕ) (n : ℕ) → n < 10000 → spelled n ≡ take (digits_after (pair_at bytes 0)) bytes → row_at bytes ≡ row_of n
@@ -104,14 +103,14 @@ unfolding row_at row_of
 decided bytes n small e = go (identifier_in bytes) refl (kind_of n) refl
   where
     go : (o : Option ℕ) → identifier_in bytes ≡ o → (k : Option Kind) → kind_of n ≡ k → row_in o ≡ with_kind n k
-    go (some x) p k q =
+    go (Some x) p k q =
         let b = begun bytes x p in
         let digits : spelled n ≡ spelled x = e ∙ ap (λ (c : ℕ). take c bytes) b.decided ∙ b.front in
         let own : n ≡ x = sym (number_of_spelled n small) ∙ ap (number_from 0) digits ∙ number_of_spelled x b.spelling.small in
         rw (← own) (ap (with_kind n) q)
-    go none p none q = refl
-    go none p (some kind) q =
-        let found : identifier_in bytes ≡ some n =
+    go None p None q = refl
+    go None p (Some kind) q =
+        let found : identifier_in bytes ≡ Some n =
         ap identifier_in (sym (take-append-drop (digits_after (pair_at bytes 0)) bytes) ∙ ap (λ (front : List ℕ). front ++ drop (digits_after (pair_at bytes 0)) bytes) (sym e))
         ∙ found_listed n (drop (digits_after (pair_at bytes 0)) bytes) (listed_if_kind n kind q) in
         absurd (let z : ◌≡◌ {A = ℕ} 0 1 = cc in omega arith)

@@ -1,7 +1,6 @@
 -- Document 01, "Element strings": the table of identifiers. No listed identifier begins with another one's digits, so at most one begins at
 -- any place.
-use Rattle.std.specs.Prelude.{ℕ, ◌+◌, ◌/◌, ◌%◌, true, false, cond, List, [], ◌∷◌, ◌++◌, length, take, ltb}
-use Rattle.std.proofs.Math.Option.{Option, some, none}
+use Rattle.std.specs.Prelude.{ℕ, ◌+◌, ◌/◌, ◌%◌, true, false, cond, List, [], ◌∷◌, ◌++◌, length, take, ltb, Option, Some, None}
 use Rattle.patterns.specs.Patterns.{same}
 use Rattle.identifiers.specs.declared.Content.{Content}
 use Rattle.identifiers.specs.declared.Content.TheVariants.{DigitsWithCheck, Date, Digits, Text}
@@ -36,8 +35,8 @@ table =
     ∷ []
 
 unfoldable pub kind_in : List (List ℕ × Kind) → ℕ → Option Kind
-kind_in [] identifier = none
-kind_in (row ∷ rows) identifier = cond (among row.0 identifier) (some row.1) (kind_in rows identifier)
+kind_in [] identifier = None
+kind_in (row ∷ rows) identifier = cond (among row.0 identifier) (Some row.1) (kind_in rows identifier)
 
 -- the kind of an identifier, if it is listed
 unfoldable pub kind_of : ℕ → Option Kind
@@ -51,9 +50,9 @@ spelled n =
     ((48 + n / 1000) ∷ (48 + n / 100 % 10) ∷ (48 + n / 10 % 10) ∷ (48 + n % 10) ∷ []))
 
 unfoldable pub first_of : List ℕ → List ℕ → Option ℕ
-first_of [] bytes = none
+first_of [] bytes = None
 first_of (identifier ∷ more) bytes =
-    cond (same (spelled identifier) (take (length (spelled identifier)) bytes)) (some identifier) (first_of more bytes)
+    cond (same (spelled identifier) (take (length (spelled identifier)) bytes)) (Some identifier) (first_of more bytes)
 
 unfoldable pub identifiers_of : List (List ℕ × Kind) → List ℕ
 identifiers_of [] = []

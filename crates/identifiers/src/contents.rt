@@ -6,22 +6,17 @@ ghost use Rattle.identifiers.specs.Data.{all_pass, is_number, days_in, is_date, 
 ghost use Rattle.identifiers.specs.Rows.{sized};
 
 use crate::{Content, Kind};
-use character_set_82::Class;
-use refusal::Answer;
+use refusal::Refusal;
 
 // Whether the data is right for its kind.
 pub fn right_data(kind: Kind, bytes: &[u8]) -> bool
     requires { sized kind ≡ true }
     ensures { result ≡ right_data kind bytes.now }
 {
-    if bytes.len() < kind.least {
+    if bytes.len() < kind.least || kind.most < bytes.len() {
         return false;
     }
-    if kind.most < bytes.len() {
-        return false;
-    }
-    let content = kind.content;
-    match content {
+    match kind.content {
         Content::DigitsWithCheck => is_number(bytes),
         Content::Date => is_date(bytes),
         Content::Digits => is_digits(bytes),
@@ -35,11 +30,7 @@ fn is_number(bytes: &[u8]) -> bool
     requires bytes_len_bound { length bytes.now ≤ 18 }
     ensures { result ≡ is_number bytes.now }
 {
-    let tested = digits::right_number(bytes, bytes.len());
-    match tested {
-        Answer::Done(_) => true,
-        Answer::Refused(_) => false,
-    }
+    digits::right_number(bytes, bytes.len()).is_ok()
 }
 
 // YYMMDD; MM 01 to 12, DD a day of that month, or 00 where no day is given.
@@ -51,14 +42,10 @@ fn is_date(bytes: &[u8]) -> bool
         return false;
     }
     let month = crate::pair_at(bytes, 2);
-    if month < 1 {
+    if !(1..=12).contains(&month) {
         return false;
     }
-    if 12 < month {
-        return false;
-    }
-    let last = days_in(crate::pair_at(bytes, 0), month);
-    crate::pair_at(bytes, 4) <= last
+    crate::pair_at(bytes, 4) <= days_in(crate::pair_at(bytes, 0), month)
 }
 
 // How many days a month has. Only YY is known of its year, so 00 is a leap year.
@@ -75,11 +62,11 @@ fn days_in(year: usize, month: usize) -> usize
 fn is_digits(bytes: &[u8]) -> bool
     ensures { result ≡ all_pass is_digit bytes.now }
 {
-    digits::first_other(bytes) == bytes.len()
+    bytes.iter().all(|byte| digits::is_digit(*byte))
 }
 
 fn is_text(bytes: &[u8]) -> bool
     ensures { result ≡ all_pass is_of82 bytes.now }
 {
-    character_set_82::first_not(Class::EightyTwo, bytes) == bytes.len()
+    bytes.iter().all(|byte| character_set_82::is_of_82(*byte))
 }

@@ -29,13 +29,6 @@ pub struct Kind {
     pub content: Content,
 }
 
-// A listed identifier and its kind.
-#[derive(Clone, Copy)]
-pub enum Row {
-    Listed(usize, Kind),
-    Unlisted,
-}
-
 impl Kind {
     fn exactly(size: usize, content: Content) -> Self
         ensures { result ≡ exactly size content }
@@ -60,43 +53,30 @@ impl Kind {
     }
 }
 
-// Document 01's table of identifiers.
-pub fn row_of(identifier: usize) -> Row
+// Document 01's table of identifiers: a listed identifier and its kind.
+pub fn row_of(identifier: usize) -> Option<(usize, Kind)>
     ensures { result ≡ row_of identifier }
 {
-    match identifier {
-        0 => Row::Listed(identifier, Kind::exactly(18, Content::DigitsWithCheck)),
-        1 | 2 => Row::Listed(identifier, Kind::exactly(14, Content::DigitsWithCheck)),
-        410 | 411 | 412 | 413 | 414 | 415 => Row::Listed(
-            identifier,
-            Kind::exactly(13, Content::DigitsWithCheck),
-        ),
-        11 | 12 | 13 | 15 | 16 | 17 => Row::Listed(identifier, Kind::exactly(6, Content::Date)),
-        20 => Row::Listed(identifier, Kind::exactly(2, Content::Digits)),
-        30 | 37 => Row::Listed(identifier, Kind::up_to(8, Content::Digits)),
-        10 | 21 => Row::Listed(identifier, Kind::up_to(20, Content::Text)),
-        240 | 241 | 250 | 400 | 90 => Row::Listed(identifier, Kind::up_to(30, Content::Text)),
-        _ => {
-            if is_measure(identifier) {
-                Row::Listed(identifier, Kind::exactly(6, Content::Digits))
-            } else {
-                Row::Unlisted
-            }
-        }
-    }
+    let kind = match identifier {
+        0 => Kind::exactly(18, Content::DigitsWithCheck),
+        1 | 2 => Kind::exactly(14, Content::DigitsWithCheck),
+        410 | 411 | 412 | 413 | 414 | 415 => Kind::exactly(13, Content::DigitsWithCheck),
+        11 | 12 | 13 | 15 | 16 | 17 => Kind::exactly(6, Content::Date),
+        20 => Kind::exactly(2, Content::Digits),
+        30 | 37 => Kind::up_to(8, Content::Digits),
+        10 | 21 => Kind::up_to(20, Content::Text),
+        240 | 241 | 250 | 400 | 90 => Kind::up_to(30, Content::Text),
+        _ if is_measure(identifier) => Kind::exactly(6, Content::Digits),
+        _ => return None,
+    };
+    Some((identifier, kind))
 }
 
 // 310y to 316y, y 0 to 5.
 fn is_measure(identifier: usize) -> bool
     ensures { result ≡ among measures identifier }
 {
-    if identifier < 3100 {
-        return false;
-    }
-    if 3165 < identifier {
-        return false;
-    }
-    identifier % 10 < 6
+    (3100..=3165).contains(&identifier) && identifier % 10 < 6
 }
 
 // How many digits an identifier has.
@@ -143,17 +123,17 @@ fn digit_byte(value: usize) -> u8
 }
 
 // The row of the listed identifier that some bytes begin with: its first two digits say how many it has.
-pub fn row_at(bytes: &[u8]) -> Row
+pub fn row_at(bytes: &[u8]) -> Option<(usize, Kind)>
     ensures { result ≡ row_at bytes.now }
 {
     let run = leading_digits(bytes);
     if run < 2 {
-        return Row::Unlisted;
+        return None;
     }
     let pair = pair_at(bytes, 0);
     let count = digits_after(pair);
     if run < count {
-        return Row::Unlisted;
+        return None;
     }
     if count == 2 {
         return row_of(pair);
@@ -180,10 +160,7 @@ fn digits_after(pair: usize) -> usize
 fn leading_digits(bytes: &[u8]) -> usize
     ensures { result ≡ first_not is_digit (take 4 bytes.now) }
 {
-    if bytes.len() < 4 {
-        return digits::first_other(bytes);
-    }
-    digits::first_other(&bytes[..4])
+    digits::first_other(&bytes[..bytes.len().min(4)])
 }
 
 // The number that two digits make.

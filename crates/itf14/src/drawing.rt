@@ -8,30 +8,26 @@ ghost use Rattle.itf14.specs.Itf14.{paired, symbol};
 use crate::{Itf14, tables};
 
 // Draws fourteen digits between the start and the stop.
-pub fn symbol(digits: &[u8]) -> [u8; Itf14::WIDTHS]
-    requires digits_len { length digits.now ≡ 14 }
-    requires below { Below 10 digits.now }
+pub fn symbol(digits: &[u8; Itf14::DIGITS]) -> [u8; Itf14::WIDTHS]
+    requires { Below 10 digits.now }
     ensures { result ≡ symbol digits.now }
 {
     let mut symbol = [0u8; Itf14::WIDTHS];
-    refusal::lay(&Itf14::START, &mut symbol);
+    symbol[..Itf14::PAIRS_AT].copy_from_slice(&Itf14::START);
     draw_pairs(digits, &mut symbol[Itf14::PAIRS_AT..Itf14::STOP_AT]);
-    refusal::lay(&Itf14::STOP, &mut symbol[Itf14::STOP_AT..]);
+    symbol[Itf14::STOP_AT..].copy_from_slice(&Itf14::STOP);
     symbol
 }
 
 // Draws fourteen digits, two by two.
-fn draw_pairs(digits: &[u8], to: &mut [u8])
-    requires digits_len { length digits.now ≡ 14 }
+fn draw_pairs(digits: &[u8; Itf14::DIGITS], to: &mut [u8])
     requires below { Below 10 digits.now }
     requires to_len { length to.old ≡ 70 }
     ensures { to.new ≡ drawn pairs (paired digits.now) }
 {
-    let mut i = 0;
-    while i < Itf14::PAIRS {
+    for i in 0..Itf14::PAIRS {
         let at = Itf14::PAIR * i;
         let pair = tables::pair(digits[2 * i] as usize, digits[2 * i + 1] as usize);
-        refusal::lay(&pair, &mut to[at..at + Itf14::PAIR]);
-        i += 1;
+        to[at..at + Itf14::PAIR].copy_from_slice(&pair);
     }
 }

@@ -5,7 +5,8 @@ ghost use Rattle.std.specs.Prelude.{length};
 ghost use Rattle.refusal.specs.Fills.{Fills};
 ghost use Rattle.itf14.specs.Itf14.{writes, reads};
 
-use refusal::Answer;
+use digits::numbered::{self, Numbered};
+use refusal::Refusal;
 
 mod drawing;
 mod scanning;
@@ -38,27 +39,37 @@ impl Itf14 {
     pub const WIDTHS: usize = 77;
 
     // Draws a number of fourteen digits.
-    pub fn write(number: &[u8], widths: &mut [u8]) -> Answer
+    pub fn write(number: &[u8], widths: &mut [u8]) -> Result<usize, Refusal>
         ensures { Fills (writes number.now (length widths.old)) widths.old result widths.new }
     {
-        let mut digits = [0u8; Itf14::DIGITS];
-        let tested = digits::values_of(number, &mut digits);
-        let Answer::Done(_) = tested else {
-            return tested;
-        };
-        let symbol = drawing::symbol(&digits);
-        refusal::lay(&symbol, widths)
+        numbered::write::<Itf14, _, _>(number, widths)
     }
 
     // Reads the number that 77 widths draw.
-    pub fn read(widths: &[u8], number: &mut [u8]) -> Answer
+    pub fn read(widths: &[u8], number: &mut [u8]) -> Result<usize, Refusal>
         ensures { Fills (reads widths.now (length number.old)) number.old result number.new }
     {
-        let mut values = [0u8; Itf14::DIGITS];
-        let scanned = scanning::digits_in(widths, &mut values);
-        let Answer::Done(_) = scanned else {
-            return scanned;
-        };
-        digits::lay_values(&values, number)
+        numbered::read::<Itf14, _, _>(widths, number)
+    }
+}
+
+impl Numbered<{ Itf14::DIGITS }, { Itf14::WIDTHS }> for Itf14 {
+    ghost use Rattle.std.proofs.Common.{rules};
+    ghost use Rattle.itf14.specs.Itf14.{symbol, scanned};
+
+    ghost symbol = { symbol };
+
+    ghost scanned = { scanned };
+
+    ghost sizes = { Prim.search rules };
+
+    fn symbol(digits: &[u8; Itf14::DIGITS]) -> [u8; Itf14::WIDTHS] {
+        drawing::symbol(digits)
+    }
+
+    fn scan(widths: &[u8]) -> Result<[u8; Itf14::DIGITS], Refusal> {
+        let mut digits = [0u8; Itf14::DIGITS];
+        scanning::digits_in(widths, &mut digits)?;
+        Ok(digits)
     }
 }

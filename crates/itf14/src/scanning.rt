@@ -8,51 +8,40 @@ ghost use Rattle.itf14.specs.Itf14.{unpaired, scanned};
 ghost use Rattle.itf14.specs.Candidates.{wide_of, weight_at, candidate_at};
 
 use crate::{Itf14, tables};
-use patterns::Match;
-use refusal::{Answer, Refusal};
+use refusal::Refusal;
 
 // The digits that widths hold, two to a pair.
-pub fn digits_in(widths: &[u8], digits: &mut [u8]) -> Answer
-    requires { length digits.old ≡ 14 }
+pub fn digits_in(widths: &[u8], digits: &mut [u8; Itf14::DIGITS]) -> Result<usize, Refusal>
     ensures { FillsOwn (scanned widths.now) digits.old result digits.new }
 {
     let mut values = [0u8; Itf14::PAIRS];
-    let scanned = pair_values(widths, &mut values);
-    let Answer::Done(_) = scanned else {
-        return scanned;
-    };
+    pair_values(widths, &mut values)?;
     digits_of(&values, digits);
-    Answer::Done(Itf14::DIGITS)
+    Ok(Itf14::DIGITS)
 }
 
 // The values of the seven pairs.
-fn pair_values(widths: &[u8], values: &mut [u8]) -> Answer
-    requires { length values.old ≡ 7 }
+fn pair_values(widths: &[u8], values: &mut [u8; Itf14::PAIRS]) -> Result<usize, Refusal>
     ensures { FillsOwn (between start stop pairs 10 7 widths.now) values.old result values.new }
 {
     if widths.len() != Itf14::WIDTHS {
-        return Answer::Refused(Refusal::Count);
+        return Err(Refusal::Count);
     }
     if !patterns::equal(&widths[..Itf14::PAIRS_AT], &Itf14::START) {
-        return Answer::Refused(Refusal::Guard);
+        return Err(Refusal::Guard);
     }
     if !patterns::equal(&widths[Itf14::STOP_AT..], &Itf14::STOP) {
-        return Answer::Refused(Refusal::Guard);
+        return Err(Refusal::Guard);
     }
-    let mut i = 0;
-    while i < Itf14::PAIRS {
+    for i in 0..Itf14::PAIRS {
         let at = Itf14::PAIRS_AT + Itf14::PAIR * i;
-        let Match::Value(value) = pair_value(&widths[at..at + Itf14::PAIR]) else {
-            return Answer::Refused(Refusal::Pattern(i));
-        };
-        values[i] = value;
-        i += 1;
+        values[i] = pair_value(&widths[at..at + Itf14::PAIR]).ok_or(Refusal::Pattern(i))?;
     }
-    Answer::Done(i)
+    Ok(Itf14::PAIRS)
 }
 
 // The pair that ten widths draw. Only one can be: its digits are weighed out, and its widths compared.
-fn pair_value(widths: &[u8]) -> Match
+fn pair_value(widths: &[u8]) -> Option<u8>
     requires { length widths.now ≡ 10 }
     ensures { result ≡ match_in pairs widths.now }
 {
@@ -60,9 +49,9 @@ fn pair_value(widths: &[u8]) -> Match
     let second = candidate(widths, 1);
     let pattern = tables::pair(first, second);
     if patterns::equal(&pattern, widths) {
-        Match::Value((10 * first + second) as u8)
+        Some((10 * first + second) as u8)
     } else {
-        Match::Nothing
+        None
     }
 }
 
@@ -97,14 +86,11 @@ fn wide(width: u8) -> usize
 }
 
 // The digits of the pairs, by value.
-fn digits_of(values: &[u8], digits: &mut [u8])
-    requires { length digits.old ≡ 2 * length values.now }
+fn digits_of(values: &[u8; Itf14::PAIRS], digits: &mut [u8; Itf14::DIGITS])
     ensures { digits.new ≡ unpaired values.now }
 {
-    let mut i = 0;
-    while i < values.len() {
-        digits[2 * i] = values[i] / 10;
-        digits[2 * i + 1] = values[i] % 10;
-        i += 1;
+    for (i, value) in values.iter().enumerate() {
+        digits[2 * i] = *value / 10;
+        digits[2 * i + 1] = *value % 10;
     }
 }

@@ -1,4 +1,5 @@
 -- Whether a number is among others: one number at a time, and of a run by its ends.
+use Rattle.std.specs.List.{list_any}
 use Prim.Native.Nat.{ℕ, zero, suc, ◌+◌, ◌-◌, ◌≤◌, ◌<◌}
 use mathlib.Core.Path.{◌≡◌, refl, sym, ap, ◌∙◌, subst}
 use mathlib.Core.Bool.{Bool, true, false, cond, not, ◌&&◌, ◌||◌, or-true, or_assoc}
@@ -27,6 +28,11 @@ among_more y xs x = go (eqb y x)
     go : (b : Bool) → ltb (cond (not b) (suc (place_in xs x)) zero) (suc (length xs)) ≡ (b || among xs x)
     go true = lt-ltb zero (suc (length xs)) (omega arith)
     go false = leb-suc-suc (suc (place_in xs x)) (length xs)
+
+-- what `contains` answers of a list of numbers
+pub any_among : (xs : List ℕ) (x : ℕ) → list_any (λ (y : ℕ). eqb y x) xs ≡ among xs x
+any_among [] x = sym (among_of_nil x)
+any_among (y ∷ xs) x = rw (among_more y xs x, any_among xs x) refl
 
 pub among_append : (xs ys : List ℕ) (x : ℕ) → among (xs ++ ys) x ≡ (among xs x || among ys x)
 among_append [] ys x = rw among_of_nil

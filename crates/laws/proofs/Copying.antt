@@ -1,12 +1,12 @@
 -- A loop that copies one list over the front of another, an element a turn: after i turns it holds i elements of the first list, and
--- after them what it held, so each turn moves the seam by one. A part that is lent on and written whole moves it by its length.
+-- after them what it held, so each turn moves the seam by one.
 use Prim.Native.Nat.{ℕ, suc, ◌+◌, ◌≤◌, ◌<◌}
-use mathlib.Core.Path.{◌≡◌, sym, ap, ap₂, ◌∙◌}
-use mathlib.Core.List.{List, ◌++◌, map, append_assoc, append-nil}
+use mathlib.Core.Path.{◌≡◌, sym, ap₂, ◌∙◌}
+use mathlib.Core.List.{List, ◌++◌, map, append-nil}
 use native.Mathlib.Numerals.{add-one}
 use native.Mathlib.Omega.{arith}
-use lib.ListN.{length, get_or, set, take, drop, length-append, length-map, drop_of_length-le, get_or-map}
-use lib.Seq.{length-take-le, take_all, take_at, take-suc, drop-cons, append_snoc, set_at}
+use lib.ListN.{length, get_or, set, take, drop, length-map, drop_of_length-le, get_or-map}
+use lib.Seq.{length-take-le, take_all, take-suc, drop-cons, append_snoc, set_at}
 
 module _ {A : Type 0} (xs ys : List A) where
   pub copied_more : (i : ℕ) (d : A) → i < length xs → i < length ys → set (take i xs ++ drop i ys) i (get_or xs i d) ≡ take (i + 1) xs ++ drop (i + 1) ys
@@ -27,10 +27,3 @@ module _ {A B : Type 0} (f : A → B) (xs : List A) (ys : List B) where
 
   pub mapped_whole : (i : ℕ) → length xs ≤ i → length ys ≤ i → take i (map f xs) ++ drop i ys ≡ map f xs
   mapped_whole i hx hy = copied_whole (map f xs) ys i (rw length-map hx) hy
-
--- k elements written from place a on
-module _ {A : Type 0} (xs ys rest : List A) (a k : ℕ) (h : a ≤ length xs) (e : length ys ≡ k) where
-  pub take_part : take (a + k) (take a xs ++ (ys ++ rest)) ≡ take a xs ++ ys
-  take_part =
-      let front : length (take a xs ++ ys) ≡ a + k = length-append (take a xs) ys ∙ ap₂ (λ (m n : ℕ). m + n) (length-take-le a xs h) e in
-      ap (take (a + k)) (sym (append_assoc (take a xs) ys rest)) ∙ take_at (take a xs ++ ys) rest (a + k) front

@@ -1,13 +1,16 @@
 -- The first element that fails a test, met by a loop that goes up: what is left of the list decides, one element at a time. Where every
 -- element passes, every element of a part does; and after a list in which every element passes, what follows decides.
+use Rattle.std.specs.Prelude.{Option, Some, None, MatchOption, unwrap_or}
 use Prim.Native.Nat.{ℕ, zero, suc, ◌+◌, ◌≤◌, ◌<◌, min, suc-le-suc}
-use mathlib.Core.Path.{◌≡◌, refl, ap}
+use mathlib.Core.Path.{◌≡◌, refl, sym, ap, ◌∙◌}
 use mathlib.Core.Bool.{Bool, true, false, cond}
 use mathlib.Core.List.{List, [], ◌∷◌, ◌++◌}
 use native.Mathlib.Nat.{le_of_suc-le-suc, not-suc-le-zero, suc_inj}
 use native.Mathlib.Omega.{arith}
 use lib.ListN.{length, get_or, take, drop, length-append, length-take}
+use lib.Dec.{eqb}
 use lib.Seq.{drop-cons, get_or-take}
+use borrow.Author.Tests.{eq-eqb, ne_eqb}
 use Rattle.laws.specs.First.{first_not}
 
 module _ {A : Type 0} (passes : A → Bool) where
@@ -71,6 +74,28 @@ module _ {A : Type 0} (passes : A → Bool) where
   first_unique (x ∷ xs) d zero h e p = rw e
   first_unique (x ∷ xs) d (suc k) h e p =
       rw (p 0 (omega arith)) (ap suc (first_unique xs d k (le_of_suc-le-suc h) e (λ i below. p (suc i) (suc-le-suc below))))
+
+  -- what a search along the list finds
+  pub first_met : (xs : List A) (d : A) (r : Option ℕ) → MatchOption r ((k : ℕ) → k < length xs → passes (get_or xs k d) ≡ true) (λ i. (i < length xs) × ((k : ℕ) → k < i → passes (get_or xs k d) ≡ true) × (passes (get_or xs i d) ≡ false)) → unwrap_or r (length xs) ≡ first_not passes xs
+  first_met xs d None all = sym (pass_all xs d all)
+  first_met xs d (Some i) (within, before, fails) = sym (first_unique xs d i within fails before)
+
+  pub first_found : (xs : List A) (d : A) (r : Option ℕ) (i : ℕ) → MatchOption r ((k : ℕ) → k < length xs → passes (get_or xs k d) ≡ true) (λ j. (j < length xs) × ((k : ℕ) → k < j → passes (get_or xs k d) ≡ true) × (passes (get_or xs j d) ≡ false)) → r ≡ Some i → (first_not passes xs ≡ i) × (i < length xs)
+  first_found xs d None i all e = absurd (let z : ◌≡◌ {A = ℕ} 0 1 = cc in omega arith)
+  first_found xs d (Some j) i (within, before, fails) e =
+      let same : j ≡ i = cc in
+      let met = first_unique xs d j within fails before in
+      (met ∙ same, omega arith)
+
+  -- and where it finds nothing
+  pub none_found : (xs : List A) (d : A) (r : Option ℕ) → MatchOption r ((k : ℕ) → k < length xs → passes (get_or xs k d) ≡ true) (λ j. (j < length xs) × ((k : ℕ) → k < j → passes (get_or xs k d) ≡ true) × (passes (get_or xs j d) ≡ false)) → r ≡ None → first_not passes xs ≡ length xs
+  none_found xs d None all e = pass_all xs d all
+  none_found xs d (Some j) found e = absurd (let z : ◌≡◌ {A = ℕ} 0 1 = cc in omega arith)
+
+  -- a test of all
+  pub all_met : (xs : List A) (d : A) (r : Bool) → (r ≡ true → (k : ℕ) → k < length xs → passes (get_or xs k d) ≡ true) → (((k : ℕ) → k < length xs → passes (get_or xs k d) ≡ true) → r ≡ true) → r ≡ eqb (first_not passes xs) (length xs)
+  all_met xs d true holds if = sym (eq-eqb (first_not passes xs) (length xs) (pass_all xs d (holds refl)))
+  all_met xs d false holds if = sym (ne_eqb (first_not passes xs) (length xs) (λ (e : first_not passes xs ≡ length xs). let z : false ≡ true = if (λ k. all_pass xs e k d) in cc))
 
   pub pass_before : (xs : List A) (i : ℕ) (d : A) → i < first_not passes xs → passes (get_or xs i d) ≡ true
   unfolding first_not

@@ -3,7 +3,7 @@
 --   AmongLaws      whether a number is among others, and among those of a run
 --   BelowLaws      lists whose elements are all below a bound
 --   Booleans       tests joined by "and", and those that can't hold
---   Copying        a loop that copies, and a part that is lent on and written whole
+--   Copying        a loop that copies
 --   ExchangedLaws  two neighbours of a list exchanged
 --   FirstChanged   a list whose every element passes a test, changed
 --   FirstLaws      the first element that fails a test
@@ -11,9 +11,11 @@
 --   Mapped         parts of a list that was mapped
 --   Packed         bytes packed into one number
 --   Parts          a list written part by part
+--   Ranges         what `(a..=b).contains(&x)` answers at numbers
 --   Remainders     what a sum's remainder shows of its terms
+--   Results        what the exit of a `?` returns
 --   SumLaws        sums of lists that are joined or stored to
---   WeighedLaws    weighed sums, met by a loop; a store, an exchange
+--   WeighedLaws    weighed sums, after a store, an exchange or one element more
 --   Tables         one test, computed over a whole table, holds at each entry
 pub mod AmongLaws
 pub mod BelowLaws
@@ -26,7 +28,9 @@ pub mod Listed
 pub mod Mapped
 pub mod Packed
 pub mod Parts
+pub mod Ranges
 pub mod Remainders
+pub mod Results
 pub mod SumLaws
 pub mod WeighedLaws
 pub mod Tables

@@ -1,13 +1,13 @@
--- A weighed sum, met by a loop that goes down: what is left grows by one element at its left end. A store changes one term, an exchange
--- of neighbours two, and an element that comes last moves every other one place on.
+-- A weighed sum, changed: a store changes one term, an exchange of neighbours two, and an element that comes last moves every other one
+-- place on.
 use Prim.Native.Nat.{ℕ, zero, suc, ◌+◌, ◌-◌, ◌*◌, ◌<◌}
 use mathlib.Core.Path.{◌≡◌, refl, ◌∙◌}
 use mathlib.Core.List.{List, [], ◌∷◌, ◌++◌}
 use native.Mathlib.Nat.{le_of_suc-le-suc, not-suc-le-zero, suc-sub-suc, sub-zero}
 use native.Mathlib.Numerals.{add-one}
 use native.Mathlib.Omega.{arith}
-use lib.ListN.{length, get_or, set, drop, length-append, length-drop, length-set}
-use lib.Seq.{drop-cons, get_or-set_other}
+use lib.ListN.{length, get_or, set, length-append, length-set}
+use lib.Seq.{get_or-set_other}
 use Rattle.laws.specs.Weighed.{weighed}
 use Rattle.laws.specs.Exchanged.{exchanged}
 use Rattle.laws.proofs.ExchangedLaws.{exchanged_sets}
@@ -16,10 +16,6 @@ module _ (weight : ℕ → ℕ) where
   pub weighed_of_nil : weighed weight [] ≡ 0
   unfolding weighed
   weighed_of_nil = refl
-
-  pub weighed_more : (xs : List ℕ) (i d : ℕ) → i < length xs → weighed weight (drop i xs) ≡ weight (length xs - suc i) * get_or xs i d + weighed weight (drop (suc i) xs)
-  unfolding weighed
-  weighed_more xs i d h = rw (drop-cons xs i d h) (rw length-drop)
 
   pub weighed_last : (xs : List ℕ) (x : ℕ) → weighed weight (xs ++ (x ∷ [])) ≡ weighed (λ k. weight (suc k)) xs + weight 0 * x
   unfolding weighed

@@ -28,12 +28,6 @@ fn place_of(bytes: &[u8], byte: u8, from: usize) -> usize
     ensures value { result ≡ from + first_not (other_than byte) (drop from bytes.now) }
     ensures upper_bound { result ≤ length bytes.now }
 {
-    let mut i = from;
-    while i < bytes.len() {
-        if bytes[i] == byte {
-            return i;
-        }
-        i += 1;
-    }
-    i
+    let rest = &bytes[from..];
+    from + rest.iter().position(|b| *b == byte).unwrap_or(rest.len())
 }

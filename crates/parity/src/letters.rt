@@ -14,13 +14,7 @@ pub fn in_sets(letters: [u8; 6], digits: &[u8]) -> [u8; 6]
     requires below_2 { Below 10 digits.now }
     ensures { result ≡ in_sets letters digits.now }
 {
-    let mut values = [0u8; 6];
-    let mut i = 0;
-    while i < 6 {
-        values[i] = 10 * letters[i] + digits[i];
-        i += 1;
-    }
-    values
+    std::array::from_fn(|i| 10 * letters[i] + digits[i])
 }
 
 // The letter of each of six values.
@@ -28,14 +22,7 @@ pub(crate) fn letters_of(values: &[u8]) -> [u8; 6]
     requires { length values.now ≡ 6 }
     ensures { result ≡ map (λ v. v / 10) values.now }
 {
-    [
-        values[0] / 10,
-        values[1] / 10,
-        values[2] / 10,
-        values[3] / 10,
-        values[4] / 10,
-        values[5] / 10,
-    ]
+    std::array::from_fn(|i| values[i] / 10)
 }
 
 // The digit of each value.
@@ -43,9 +30,7 @@ pub fn digits_of(values: &[u8], digits: &mut [u8])
     requires { length digits.old ≡ length values.now }
     ensures { digits.new ≡ map (λ v. v % 10) values.now }
 {
-    let mut i = 0;
-    while i < values.len() {
-        digits[i] = values[i] % 10;
-        i += 1;
+    for (i, value) in values.iter().enumerate() {
+        digits[i] = *value % 10;
     }
 }

@@ -5,7 +5,6 @@ ghost use Rattle.parity.specs.Rows.{by_first_digit, by_check_digit, rows_of};
 
 use crate::letters;
 use crate::letters::{A, B};
-use patterns::Match;
 
 // Which digit the rows stand for: the first one of an EAN-13, or the check digit of a UPC-E.
 #[derive(Clone, Copy)]
@@ -60,27 +59,13 @@ pub fn row_of(rows: Rows, digit: usize) -> [u8; 6]
     ensures { result ≡ get_or (rows_of rows) digit [] }
 {
     match rows {
-        Rows::FirstDigit => row_of_first(digit),
-        Rows::CheckDigit => row_of_check(digit),
+        Rows::FirstDigit => BY_FIRST_DIGIT[digit],
+        Rows::CheckDigit => BY_CHECK_DIGIT[digit],
     }
 }
 
-fn row_of_first(digit: usize) -> [u8; 6]
-    requires { digit < 10 }
-    ensures { result ≡ get_or by_first_digit digit [] }
-{
-    BY_FIRST_DIGIT[digit]
-}
-
-fn row_of_check(digit: usize) -> [u8; 6]
-    requires { digit < 10 }
-    ensures { result ≡ get_or by_check_digit digit [] }
-{
-    BY_CHECK_DIGIT[digit]
-}
-
 // The digit whose row the letters of six values are.
-pub fn digit_of(rows: Rows, values: &[u8]) -> Match
+pub fn digit_of(rows: Rows, values: &[u8]) -> Option<u8>
     requires { length values.now ≡ 6 }
     ensures { result ≡ match_in (rows_of rows) (map (λ v. v / 10) values.now) }
 {
@@ -88,9 +73,9 @@ pub fn digit_of(rows: Rows, values: &[u8]) -> Match
     let digit = candidate(letters);
     let row = row_of(rows, digit as usize);
     if patterns::equal(&row, &letters) {
-        Match::Value(digit)
+        Some(digit)
     } else {
-        Match::Nothing
+        None
     }
 }
 

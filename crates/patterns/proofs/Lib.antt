@@ -1,6 +1,5 @@
 -- Tables of width patterns.
 --
---   SameLaws        two lists compared by a loop
 --   PatternLaws     a table and the values of widths undo one another
 --   MatchLaws       what a matcher's answer says of the value
 --   CharacterLaws   characters one after the other: scanned, drawn, and back
@@ -9,7 +8,6 @@
 --   BetweenLaws     characters between a start and a stop: scanned, drawn, and back
 --   ScanLaws        a scan, met by a loop
 --   DrawLaws        a drawing, met by a loop
-pub mod SameLaws
 pub mod PatternLaws
 pub mod MatchLaws
 pub mod CharacterLaws

@@ -1,5 +1,6 @@
 -- A scan met by a loop that goes up, a character a turn: the values found so far, before what is left of the scan, are the rule's, and the
 -- matcher's answer for the next character decides whether it goes on. And what a scan says that has filled a working list.
+use Rattle.std.specs.Prelude.{Result, Ok, Some, None}
 use Prim.Native.Nat.{ℕ, ◌+◌, ◌*◌, ◌<◌}
 use mathlib.Core.Path.{◌≡◌, sym, ap, ◌∙◌}
 use mathlib.Core.List.{List, [], ◌∷◌, append-nil}
@@ -8,13 +9,11 @@ use native.Mathlib.Omega.{arith}
 use lib.ListN.{length, set, take, drop}
 use lib.Seq.{take_all, take-suc-set}
 use Rattle.laws.specs.Below.{Below}
-use Rattle.refusal.specs.declared.Answer.{Answer}
-use Rattle.refusal.specs.declared.Answer.TheVariants.{Done}
+use Rattle.refusal.specs.declared.Refusal.{Refusal}
 use Rattle.refusal.specs.declared.Refusal.TheVariants.{Pattern}
 use Rattle.refusal.specs.Outcome.{Outcome, made, refused}
 use Rattle.refusal.specs.Fills.{FillsOwn}
 use Rattle.refusal.proofs.OwnLaws.{own_made}
-use Rattle.patterns.specs.declared.Match.TheVariants.{Value, Nothing}
 use Rattle.patterns.specs.Patterns.{characters}
 use Rattle.patterns.specs.Matching.{match_in}
 use Rattle.patterns.proofs.CharacterLaws.{prefixed, prefixed_twice, prefixed_none, left, left_at_first, left_at_last, left_more, left_stop, drawn_of_characters}
@@ -42,7 +41,7 @@ module _ (patterns : List (List ℕ)) (size count place : ℕ) (widths : List �
         ∙ ap made (append-nil (take count values) ∙ take_all count values (omega arith))
 
     -- a scan that has filled a list of as many places
-    pub scan_filled : (before : List ℕ) (r : Answer) (n : ℕ) → FillsOwn rule before r values → r ≡ Done n → length before ≡ count → (rule ≡ made values) × (length values ≡ count) × Below (length patterns) values
+    pub scan_filled : (before : List ℕ) (r : Result ℕ Refusal) (n : ℕ) → FillsOwn rule before r values → r ≡ Ok n → length before ≡ count → (rule ≡ made values) × (length values ≡ count) × Below (length patterns) values
     scan_filled before r n fills is long =
         let scanned = own_made rule before values r n is fills (λ vs e. (drawn_of_characters patterns size count place widths vs e).0 ∙ sym long) in
         let parts = drawn_of_characters patterns size count place widths values scanned in
@@ -52,11 +51,11 @@ module _ (patterns : List (List ℕ)) (size count place : ℕ) (widths : List �
       abbrev part : List ℕ
       part = take size (drop (size * i) widths)
 
-      pub scan_stops : Nothing ≡ match_in patterns part → rule ≡ refused (Pattern (place + i))
+      pub scan_stops : None ≡ match_in patterns part → rule ≡ refused (Pattern (place + i))
       scan_stops none =
           so ∙ ap (prefixed (take i values)) (left_stop patterns size count place widths i h (value_of_nothing patterns part none))
 
-      pub scan_goes : (v : ℕ) → length values ≡ count → Value v ≡ match_in patterns part → ScannedTo (i + 1) (set values i v)
+      pub scan_goes : (v : ℕ) → length values ≡ count → Some v ≡ match_in patterns part → ScannedTo (i + 1) (set values i v)
       scan_goes v long found =
           let is = value_of_match patterns part v found in
           so

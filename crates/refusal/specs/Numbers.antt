@@ -1,6 +1,6 @@
 -- Document 01, "Refusal numbers": each refusal's number, and its place. "The place is 0 unless the table says otherwise." Document 02, request 1,
 -- adds 14.
-use Rattle.std.specs.Prelude.{ℕ}
+use Rattle.std.specs.Prelude.{ℕ, List, ◌∷◌, ◌++◌, decimal}
 use Rattle.refusal.specs.declared.Refusal.{Refusal}
 use Rattle.refusal.specs.declared.Refusal.TheVariants.{Count, Character, CheckDigit, Guard, Pattern, CheckCharacter, FirstCharacter, Sequence, Identifier, Data, Repeated, Room, Absent, Condensed}
 
@@ -35,3 +35,7 @@ place_of (Repeated place) = place
 place_of Room = 0
 place_of Absent = 0
 place_of Condensed = 0
+
+-- document 01, "Examples on each side": "the refusal and its place, one space apart"
+abbrev pub printed : Refusal → List ℕ
+printed refusal = decimal (number_of refusal) ++ (32 ∷ decimal (place_of refusal))

@@ -1,12 +1,15 @@
 // The refusals of document 01, what a call answers, and the one copy into a lent list.
 #![tactic(auto)]
 
-ghost use Rattle.std.specs.Prelude.{◌≡◌, length};
-ghost use Rattle.refusal.specs.Numbers.{number_of, place_of};
+ghost use Rattle.std.specs.Prelude.{◌≡◌, length, Some};
+ghost use Rattle.refusal.specs.Numbers.{number_of, place_of, printed};
 ghost use Rattle.refusal.specs.Fills.{Fills, laying};
 
+use std::error::Error;
+use std::fmt;
+
 // One case for each number, those of document 01's table and then those of document 02's requests; a case that has a place holds it.
-#[derive(Clone, Copy)]
+#[derive(Clone, Copy, Debug, PartialEq, Eq)]
 pub enum Refusal {
     Count,
     Character(usize),
@@ -22,13 +25,6 @@ pub enum Refusal {
     Room,
     Absent,
     Condensed,
-}
-
-// The count written, or the number asked for; or why there is none.
-#[derive(Clone, Copy)]
-pub enum Answer {
-    Done(usize),
-    Refused(Refusal),
 }
 
 impl Refusal {
@@ -75,17 +71,26 @@ impl Refusal {
     }
 }
 
+// As document 01 prints it: "the refusal and its place, one space apart".
+impl fmt::Display for Refusal {
+    ghost output = { λ refusal. Some (printed refusal) };
+
+    fn fmt<W: fmt::Write>(&self, f: &mut fmt::Formatter<W>) -> fmt::Result {
+        let number = self.number();
+        let place = self.place();
+        write!(f, "{number} {place}")
+    }
+}
+
+impl Error for Refusal {}
+
 // Lays the whole of a list at the front of a lent one, or refuses and changes nothing.
-pub fn lay(list: &[u8], lent: &mut [u8]) -> Answer
+pub fn lay(list: &[u8], lent: &mut [u8]) -> Result<usize, Refusal>
     ensures { Fills (laying list.now (length lent.old)) lent.old result lent.new }
 {
     if lent.len() < list.len() {
-        return Answer::Refused(Refusal::Room);
+        return Err(Refusal::Room);
     }
-    let mut i = 0;
-    while i < list.len() {
-        lent[i] = list[i];
-        i += 1;
-    }
-    Answer::Done(i)
+    lent[..list.len()].copy_from_slice(list);
+    Ok(list.len())
 }

@@ -1,12 +1,10 @@
 // A line of the desk as a request: which call it asks for, how many places that is lent, and where its arguments begin; or what is wrong with it.
 #![tactic(auto)]
 
-ghost use Rattle.std.specs.Prelude.{◌≡◌, ◌≤◌, length};
-ghost use Rattle.requests.specs.Requests.{places_of, request_of, in_room, call_at, leading_of, capped, Within, LeadsWithin};
+ghost use Rattle.std.specs.Prelude.{◌≡◌, ◌≤◌, length, unwrap_or};
+ghost use Rattle.requests.specs.Requests.{request_of, in_room, call_at, leading_of, capped, Within, LeadsWithin};
 
 use symbols::Kind;
-use text::Number;
-use words::Named;
 
 pub mod faults;
 mod words;
@@ -15,18 +13,12 @@ mod words;
 pub enum Word {
     Digit,
     Draw(Kind),
-    Read(Which),
+    // as a symbol of a named kind, or of the one that the list has
+    Read(Option<Kind>),
     Test,
     Split,
     Ask,
     Add,
-}
-
-// The kind that a list of widths is read as: a named one, or the one that it has.
-#[derive(Clone, Copy)]
-pub enum Which {
-    Only(Kind),
-    Any,
 }
 
 // The arguments, by what stands for them in `help`.
@@ -55,101 +47,77 @@ pub enum Fault {
 pub enum Request {
     Call(Word, usize, usize),
     Help,
-    Wrong(Fault),
-}
-
-// An identifier that is typed before other arguments, and where these begin.
-#[derive(Clone, Copy)]
-pub enum Leading {
-    Identifier(usize, usize),
-    Wrong(Fault),
-}
-
-// How many places a call is lent: the usual ones, or as many as `room N ` says.
-#[derive(Clone, Copy)]
-pub enum Room {
-    Usual,
-    Exactly(usize),
 }
 
 // No identifier has five digits, so this one stands for every number from it on.
 pub const UNLISTED: usize = 10000;
 
 // What a line asks for: a call, before which `room N ` may stand, or `help`.
-pub fn request_of(line: &[u8]) -> Request
+pub fn request_of(line: &[u8]) -> Result<Request, Fault>
     ensures value { result ≡ request_of line.now }
     ensures within { Within result (length line.now) }
 {
     if line.len() == 0 {
-        return Request::Wrong(Fault::Empty);
+        return Err(Fault::Empty);
     }
     let end = lines::word_end(line, 0);
     if !patterns::equal(&line[0..end], b"room") {
-        return call_at(line, 0, Room::Usual);
+        return call_at(line, 0, None);
     }
     if end == line.len() {
-        return Request::Wrong(Fault::Missing(Argument::Places));
+        return Err(Fault::Missing(Argument::Places));
     }
     in_room(line, end + 1)
 }
 
 // What follows `room `: a number of places, and then a call.
-fn in_room(line: &[u8], from: usize) -> Request
+fn in_room(line: &[u8], from: usize) -> Result<Request, Fault>
     requires { from ≤ length line.now }
     ensures value { result ≡ in_room line.now from }
     ensures within { Within result (length line.now) }
 {
     let end = lines::word_end(line, from);
-    let Number::Is(places) = text::number_in(&line[from..end], 700) else {
-        return Request::Wrong(Fault::Malformed(Argument::Places));
+    let Some(places) = text::number_in(&line[from..end], 700) else {
+        return Err(Fault::Malformed(Argument::Places));
     };
     if end == line.len() {
-        return Request::Wrong(Fault::Missing(Argument::Call));
+        return Err(Fault::Missing(Argument::Call));
     }
-    call_at(line, end + 1, Room::Exactly(places))
+    call_at(line, end + 1, Some(places))
 }
 
-// The call that begins at a place.
-fn call_at(line: &[u8], from: usize, room: Room) -> Request
+// The call that begins at a place, and is lent as many places as `room N ` says, or else the usual ones.
+fn call_at(line: &[u8], from: usize, room: Option<usize>) -> Result<Request, Fault>
     requires from_in_bounds { from ≤ length line.now }
-    requires room_bound { places_of room 700 ≤ 700 }
+    requires room_bound { unwrap_or room 700 ≤ 700 }
     ensures value { result ≡ call_at line.now from room }
     ensures within { Within result (length line.now) }
 {
     let end = lines::word_end(line, from);
     let word = &line[from..end];
     if patterns::equal(word, b"help") {
-        return Request::Help;
+        return Ok(Request::Help);
     }
-    let Named::As(call, argument, usual) = words::find(word) else {
-        return Request::Wrong(Fault::NoSuchCall);
+    let Some(named) = words::find(word) else {
+        return Err(Fault::NoSuchCall);
     };
     if end == line.len() {
-        return Request::Wrong(Fault::Missing(argument));
+        return Err(Fault::Missing(named.first));
     }
-    Request::Call(call, places_of(room, usual), end + 1)
+    Ok(Request::Call(named.call, room.unwrap_or(named.usual), end + 1))
 }
 
-// The identifier before the first space, where another argument must follow.
-pub fn identifier_in(typed: &[u8], next: Argument) -> Leading
+// The identifier before the first space, where another argument must follow; and where that begins.
+pub fn identifier_in(typed: &[u8], next: Argument) -> Result<(usize, usize), Fault>
     ensures value { result ≡ capped (leading_of typed.now next) }
     ensures leads_within { LeadsWithin result (length typed.now) }
 {
     let end = lines::word_end(typed, 0);
-    let Number::Is(identifier) = text::capped_in(&typed[0..end], UNLISTED) else {
-        return Leading::Wrong(Fault::Malformed(Argument::Identifier));
+    let Some(identifier) = text::capped_in(&typed[0..end], UNLISTED) else {
+        return Err(Fault::Malformed(Argument::Identifier));
     };
     if end == typed.len() {
-        return Leading::Wrong(Fault::Missing(next));
+        return Err(Fault::Missing(next));
     }
-    Leading::Identifier(identifier, end + 1)
-}
-
-fn places_of(room: Room, usual: usize) -> usize
-    ensures { result ≡ places_of room usual }
-{
-    match room {
-        Room::Usual => usual,
-        Room::Exactly(places) => places,
-    }
+    Ok((identifier, end + 1))
 }

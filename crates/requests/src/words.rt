@@ -1,79 +1,82 @@
-// The words that a call begins with, each with the argument that must follow it and the usual count of places.
-ghost use Rattle.std.specs.Prelude.{◌≡◌, ◌++◌};
-ghost use Rattle.requests.specs.Words.{reading, on_messages, calls, named_in};
+// The words that a call begins with, one row each.
+ghost use Rattle.std.specs.Prelude.{◌≡◌, map};
+ghost use Rattle.requests.specs.Words.{calls, named_in, row_of, named_by};
 
-use crate::{Argument, Which, Word};
+use crate::{Argument, Word};
 use patterns::equal;
 use symbols::Kind;
 
+// What a word names: the argument that must follow it, how many places the call is usually lent, and the call.
 #[derive(Clone, Copy)]
-pub enum Named {
-    As(Word, Argument, usize),
-    Nothing,
+pub struct Named {
+    pub first: Argument,
+    pub usual: usize,
+    pub call: Word,
 }
 
-pub fn find(word: &[u8]) -> Named
+// Each word, with what it names in the same order.
+const CALLS: [(&[u8], Argument, usize, Word); 16] = [
+    (b"digit", Argument::Digits, 64, Word::Digit),
+    (b"ean13", Argument::Number, 700, Word::Draw(Kind::Ean13)),
+    (b"ean8", Argument::Number, 700, Word::Draw(Kind::Ean8)),
+    (b"upce", Argument::Number, 700, Word::Draw(Kind::UpcE)),
+    (b"itf14", Argument::Number, 700, Word::Draw(Kind::Itf14)),
+    (b"gs1", Argument::Message, 700, Word::Draw(Kind::Gs1128)),
+    (
+        b"read-ean13",
+        Argument::Widths,
+        64,
+        Word::Read(Some(Kind::Ean13)),
+    ),
+    (
+        b"read-ean8",
+        Argument::Widths,
+        64,
+        Word::Read(Some(Kind::Ean8)),
+    ),
+    (
+        b"read-upce",
+        Argument::Widths,
+        64,
+        Word::Read(Some(Kind::UpcE)),
+    ),
+    (
+        b"read-itf14",
+        Argument::Widths,
+        64,
+        Word::Read(Some(Kind::Itf14)),
+    ),
+    (
+        b"read-gs1",
+        Argument::Widths,
+        64,
+        Word::Read(Some(Kind::Gs1128)),
+    ),
+    (b"read", Argument::Widths, 64, Word::Read(None)),
+    (b"test", Argument::Message, 64, Word::Test),
+    (b"split", Argument::Message, 12, Word::Split),
+    (b"ask", Argument::Identifier, 64, Word::Ask),
+    (b"add", Argument::Identifier, 64, Word::Add),
+];
+
+pub fn find(word: &[u8]) -> Option<Named>
     ensures { result ≡ named_in calls word.now }
 {
-    if equal(word, b"digit") {
-        return Named::As(Word::Digit, Argument::Digits, 64);
-    }
-    if equal(word, b"ean13") {
-        return Named::As(Word::Draw(Kind::Ean13), Argument::Number, 700);
-    }
-    if equal(word, b"ean8") {
-        return Named::As(Word::Draw(Kind::Ean8), Argument::Number, 700);
-    }
-    if equal(word, b"upce") {
-        return Named::As(Word::Draw(Kind::UpcE), Argument::Number, 700);
-    }
-    if equal(word, b"itf14") {
-        return Named::As(Word::Draw(Kind::Itf14), Argument::Number, 700);
-    }
-    if equal(word, b"gs1") {
-        return Named::As(Word::Draw(Kind::Gs1128), Argument::Message, 700);
-    }
-    find_reading(word)
+    named_by(&CALLS, word)
 }
 
-fn find_reading(word: &[u8]) -> Named
-    ensures { result ≡ named_in (reading ++ on_messages) word.now }
+// What the first row of a table that has the word says of it.
+fn named_by(rows: &[(&[u8], Argument, usize, Word)], word: &[u8]) -> Option<Named>
+    ensures { result ≡ named_by (map row_of rows.now) word.now }
 {
-    if equal(word, b"read-ean13") {
-        return Named::As(Word::Read(Which::Only(Kind::Ean13)), Argument::Widths, 64);
+    for (name, first, usual, call) in rows {
+        if equal(word, name) {
+            return Some(Named {
+                first: *first,
+                usual: *usual,
+                call: *call,
+            });
+        }
     }
-    if equal(word, b"read-ean8") {
-        return Named::As(Word::Read(Which::Only(Kind::Ean8)), Argument::Widths, 64);
-    }
-    if equal(word, b"read-upce") {
-        return Named::As(Word::Read(Which::Only(Kind::UpcE)), Argument::Widths, 64);
-    }
-    if equal(word, b"read-itf14") {
-        return Named::As(Word::Read(Which::Only(Kind::Itf14)), Argument::Widths, 64);
-    }
-    if equal(word, b"read-gs1") {
-        return Named::As(Word::Read(Which::Only(Kind::Gs1128)), Argument::Widths, 64);
-    }
-    if equal(word, b"read") {
-        return Named::As(Word::Read(Which::Any), Argument::Widths, 64);
-    }
-    find_on_messages(word)
-}
-
-fn find_on_messages(word: &[u8]) -> Named
-    ensures { result ≡ named_in on_messages word.now }
-{
-    if equal(word, b"test") {
-        return Named::As(Word::Test, Argument::Message, 64);
-    }
-    if equal(word, b"split") {
-        return Named::As(Word::Split, Argument::Message, 12);
-    }
-    if equal(word, b"ask") {
-        return Named::As(Word::Ask, Argument::Identifier, 64);
-    }
-    if equal(word, b"add") {
-        return Named::As(Word::Add, Argument::Identifier, 64);
-    }
-    Named::Nothing
+    None
 }

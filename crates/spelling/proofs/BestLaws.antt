@@ -1,10 +1,10 @@
 -- One step of the best spelling: from set B it is no worse than the byte's value and what is best from B after it, from set C no worse than
 -- FNC1 or a pair and what is best from C after it, and from each no worse than the change and what is best from the other.
+use Rattle.std.specs.Prelude.{Option, Some, None}
 use Prim.Native.Nat.{ℕ, ◌+◌, ◌*◌, ◌≤◌}
 use mathlib.Core.Path.{◌≡◌, refl, sym, subst}
 use mathlib.Core.Bool.{Bool, true, false, cond, ◌&&◌}
 use mathlib.Core.List.{List, [], ◌∷◌}
-use mathlib.Core.Option.{Option, some, none}
 use native.Mathlib.Omega.{arith}
 use lib.ListN.{length}
 use lib.Dec.{eqb}
@@ -23,60 +23,60 @@ pair_of a b = 10 * value_of a + value_of b
 abbrev pub begin_c : ℕ → List ℕ → Option (List ℕ)
 begin_c byte rest = first_c byte rest (bests rest).0 (bests rest).1
 
-pub begins_separator : (rest : List ℕ) → begin_c separator rest ≡ some (102 ∷ from_c rest)
+pub begins_separator : (rest : List ℕ) → begin_c separator rest ≡ Some (102 ∷ from_c rest)
 begins_separator [] = refl
 begins_separator (next ∷ more) = refl
 
-pub begins_pair : (a b : ℕ) (rest : List ℕ) → is_digit a ≡ true → is_digit b ≡ true → begin_c a (b ∷ rest) ≡ some (pair_of a b ∷ from_c rest)
+pub begins_pair : (a b : ℕ) (rest : List ℕ) → is_digit a ≡ true → is_digit b ≡ true → begin_c a (b ∷ rest) ≡ Some (pair_of a b ∷ from_c rest)
 unfolding bests
 begins_pair a b rest p q = let range = digit_range a p in rw (ne_eqb a separator (omega arith), p, q)
 
 -- the ways in which a text begins in set C
 pub data Begins : ℕ → List ℕ → Option (List ℕ) → Type 0 where
-  with_separator : {rest : List ℕ} → Begins separator rest (some (102 ∷ from_c rest))
-  with_pair : {a b : ℕ} {rest : List ℕ} → is_digit a ≡ true → is_digit b ≡ true → Begins a (b ∷ rest) (some (pair_of a b ∷ from_c rest))
-  with_change : {byte : ℕ} {rest : List ℕ} → Begins byte rest none
+  with_separator : {rest : List ℕ} → Begins separator rest (Some (102 ∷ from_c rest))
+  with_pair : {a b : ℕ} {rest : List ℕ} → is_digit a ≡ true → is_digit b ≡ true → Begins a (b ∷ rest) (Some (pair_of a b ∷ from_c rest))
+  with_change : {byte : ℕ} {rest : List ℕ} → Begins byte rest None
 
 pub begins : (byte : ℕ) (rest : List ℕ) → Begins byte rest (begin_c byte rest)
 unfolding bests
 begins byte [] = go (eqb byte separator) refl
   where
-    go : (t : Bool) → eqb byte separator ≡ t → Begins byte [] (cond t (some (102 ∷ [])) none)
+    go : (t : Bool) → eqb byte separator ≡ t → Begins byte [] (cond t (Some (102 ∷ [])) None)
     go true e = rw (eqb-true byte separator e) with_separator
     go false e = with_change
 begins byte (next ∷ more) = go (eqb byte separator) refl
   where
-    two : (t : Bool) → (is_digit byte && is_digit next) ≡ t → Begins byte (next ∷ more) (cond t (some (pair_of byte next ∷ from_c more)) none)
+    two : (t : Bool) → (is_digit byte && is_digit next) ≡ t → Begins byte (next ∷ more) (cond t (Some (pair_of byte next ∷ from_c more)) None)
     two true e = let both = both_hold (is_digit byte) (is_digit next) e in with_pair both.0 both.1
     two false e = with_change
 
-    go : (t : Bool) → eqb byte separator ≡ t → Begins byte (next ∷ more) (cond t (some (102 ∷ from_c (next ∷ more))) (cond (is_digit byte && is_digit next) (some (pair_of byte next ∷ from_c more)) none))
+    go : (t : Bool) → eqb byte separator ≡ t → Begins byte (next ∷ more) (cond t (Some (102 ∷ from_c (next ∷ more))) (cond (is_digit byte && is_digit next) (Some (pair_of byte next ∷ from_c more)) None))
     go true e = rw (eqb-true byte separator e) with_separator
     go false e = two (is_digit byte && is_digit next) refl
 
 -- the choice between staying and changing
 module _ (b : List ℕ) where
   chosen_to_c : (o : Option (List ℕ)) → better (chosen b o).in_b (99 ∷ (chosen b o).in_c) ≡ true
-  chosen_to_c none = better_fewer b (99 ∷ 100 ∷ b) (omega arith)
-  chosen_to_c (some c) =
+  chosen_to_c None = better_fewer b (99 ∷ 100 ∷ b) (omega arith)
+  chosen_to_c (Some c) =
       let stay : length (better_of b (99 ∷ c)) ≤ length b = better_length (better_of b (99 ∷ c)) b (better_than_left b (99 ∷ c)) in
       better_of_two (λ (z : List ℕ). better (better_of b (99 ∷ c)) (99 ∷ z) ≡ true) c (100 ∷ b)
       (better_than_right b (99 ∷ c))
       (better_fewer (better_of b (99 ∷ c)) (99 ∷ 100 ∷ b) (omega arith))
 
   chosen_to_b : (o : Option (List ℕ)) → better (chosen b o).in_c (100 ∷ (chosen b o).in_b) ≡ true
-  chosen_to_b none = better_refl (100 ∷ b)
-  chosen_to_b (some c) =
+  chosen_to_b None = better_refl (100 ∷ b)
+  chosen_to_b (Some c) =
       let stay : length (better_of c (100 ∷ b)) ≤ length c = better_length (better_of c (100 ∷ b)) c (better_than_left c (100 ∷ b)) in
       better_of_two (λ (z : List ℕ). better (better_of c (100 ∷ b)) (100 ∷ z) ≡ true) b (99 ∷ c)
       (better_than_right c (100 ∷ b))
       (better_fewer (better_of c (100 ∷ b)) (100 ∷ 99 ∷ c) (omega arith))
 
   chosen_stays : (o : Option (List ℕ)) → better (chosen b o).in_b b ≡ true
-  chosen_stays none = better_refl b
-  chosen_stays (some c) = better_than_left b (99 ∷ c)
+  chosen_stays None = better_refl b
+  chosen_stays (Some c) = better_than_left b (99 ∷ c)
 
-  chosen_begins : (c : List ℕ) → better (chosen b (some c)).in_c c ≡ true
+  chosen_begins : (c : List ℕ) → better (chosen b (Some c)).in_c c ≡ true
   chosen_begins c = better_than_left c (100 ∷ b)
 
   -- from each set something is spelled
@@ -100,7 +100,7 @@ unfolding bests
 c_changes [] = better_fewer [] (100 ∷ []) (omega arith)
 c_changes (byte ∷ rest) = chosen_to_b (value_b byte ∷ from_b rest) (begin_c byte rest)
 
-c_begins : (byte : ℕ) (rest c : List ℕ) → begin_c byte rest ≡ some c → better (from_c (byte ∷ rest)) c ≡ true
+c_begins : (byte : ℕ) (rest c : List ℕ) → begin_c byte rest ≡ Some c → better (from_c (byte ∷ rest)) c ≡ true
 unfolding bests
 c_begins byte rest c e =
     subst (λ (o : Option (List ℕ)). better (chosen (value_b byte ∷ from_b rest) o).in_c c ≡ true) (sym e) (chosen_begins (value_b byte ∷ from_b rest) c)

@@ -1,9 +1,9 @@
 -- The best spelling of a message is a legal one: from each set, each step of it is a step of the relation.
+use Rattle.std.specs.Prelude.{Option}
 use Prim.Native.Nat.{ℕ, zero, suc, ◌+◌, ◌-◌, ◌/◌, ◌%◌, ◌≤◌, ◌<◌}
 use mathlib.Core.Path.{◌≡◌, refl, sym, ap, subst, subst₂}
 use mathlib.Core.Bool.{Bool, true, false, cond, ◌&&◌, ◌||◌}
 use mathlib.Core.List.{List, [], ◌∷◌}
-use mathlib.Core.Option.{Option}
 use native.Mathlib.Nat.{suc_inj}
 use native.Mathlib.Omega.{arith}
 use lib.ListN.{length, drop}

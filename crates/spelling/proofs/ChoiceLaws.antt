@@ -1,10 +1,10 @@
 -- The best spelling is found by lengths alone: where two spellings begin with different values, the longer loses, and of two of one length the
 -- one with the greater first value. In set C two digits are always a pair, since what is best from B never grows shorter by a byte more.
+use Rattle.std.specs.Prelude.{Option, Some, None}
 use Prim.Native.Nat.{ℕ, suc, ◌+◌, ◌≤◌, ◌<◌}
 use mathlib.Core.Path.{◌≡◌, refl, ap, ◌∙◌}
 use mathlib.Core.Bool.{Bool, true, false, cond, ◌&&◌}
 use mathlib.Core.List.{List, [], ◌∷◌}
-use mathlib.Core.Option.{Option, some, none}
 use native.Mathlib.Omega.{arith}
 use lib.ListN.{length, get_or}
 use lib.Dec.{eqb, ltb}
@@ -65,16 +65,16 @@ b_grows byte rest = go (begins byte rest)
 
 module _ (rest : List ℕ) where
   pub separator_in_b : length (from_b rest) ≤ length (from_c rest) → from_b (separator ∷ rest) ≡ 102 ∷ from_b rest
-  separator_in_b h = from_b_lem separator rest (some (102 ∷ from_c rest)) (begins_separator rest) ∙ left_is_shorter 102 99 (from_b rest) (102 ∷ from_c rest) (omega arith)
+  separator_in_b h = from_b_lem separator rest (Some (102 ∷ from_c rest)) (begins_separator rest) ∙ left_is_shorter 102 99 (from_b rest) (102 ∷ from_c rest) (omega arith)
 
   pub separator_to_c : length (from_c rest) < length (from_b rest) → from_b (separator ∷ rest) ≡ 99 ∷ 102 ∷ from_c rest
-  separator_to_c h = from_b_lem separator rest (some (102 ∷ from_c rest)) (begins_separator rest) ∙ right_wins 102 99 (from_b rest) (102 ∷ from_c rest) (omega arith) (omega arith)
+  separator_to_c h = from_b_lem separator rest (Some (102 ∷ from_c rest)) (begins_separator rest) ∙ right_wins 102 99 (from_b rest) (102 ∷ from_c rest) (omega arith) (omega arith)
 
   pub separator_in_c : length (from_c rest) ≤ length (from_b rest) → from_c (separator ∷ rest) ≡ 102 ∷ from_c rest
-  separator_in_c h = from_c_lem separator rest (some (102 ∷ from_c rest)) (begins_separator rest) ∙ left_is_shorter 102 100 (from_c rest) (102 ∷ from_b rest) (omega arith)
+  separator_in_c h = from_c_lem separator rest (Some (102 ∷ from_c rest)) (begins_separator rest) ∙ left_is_shorter 102 100 (from_c rest) (102 ∷ from_b rest) (omega arith)
 
   pub separator_to_b : length (from_b rest) < length (from_c rest) → from_c (separator ∷ rest) ≡ 100 ∷ 102 ∷ from_b rest
-  separator_to_b h = from_c_lem separator rest (some (102 ∷ from_c rest)) (begins_separator rest) ∙ right_wins 102 100 (from_c rest) (102 ∷ from_b rest) (omega arith) (omega arith)
+  separator_to_b h = from_c_lem separator rest (Some (102 ∷ from_c rest)) (begins_separator rest) ∙ right_wins 102 100 (from_c rest) (102 ∷ from_b rest) (omega arith) (omega arith)
 
 module _ (a b : ℕ) (rest : List ℕ) (p : is_digit a ≡ true) (q : is_digit b ≡ true) where
   value_below : value_b a < 99
@@ -85,30 +85,30 @@ module _ (a b : ℕ) (rest : List ℕ) (p : is_digit a ≡ true) (q : is_digit b
 
   pub pair_in_b : length (from_b (b ∷ rest)) ≤ length (from_c rest) + 1 → from_b (a ∷ b ∷ rest) ≡ value_b a ∷ from_b (b ∷ rest)
   pair_in_b h =
-      from_b_lem a (b ∷ rest) (some (pair_of a b ∷ from_c rest)) (begins_pair a b rest p q)
+      from_b_lem a (b ∷ rest) (Some (pair_of a b ∷ from_c rest)) (begins_pair a b rest p q)
       ∙ left_wins (value_b a) 99 (from_b (b ∷ rest)) (pair_of a b ∷ from_c rest) value_below (omega arith)
 
   pub pair_to_c : length (from_c rest) + 1 < length (from_b (b ∷ rest)) → from_b (a ∷ b ∷ rest) ≡ 99 ∷ pair_of a b ∷ from_c rest
   pair_to_c h =
-      from_b_lem a (b ∷ rest) (some (pair_of a b ∷ from_c rest)) (begins_pair a b rest p q)
+      from_b_lem a (b ∷ rest) (Some (pair_of a b ∷ from_c rest)) (begins_pair a b rest p q)
       ∙ right_is_shorter (value_b a) 99 (from_b (b ∷ rest)) (pair_of a b ∷ from_c rest) (omega arith)
 
   pub pair_in_c : from_c (a ∷ b ∷ rest) ≡ pair_of a b ∷ from_c rest
   pair_in_c =
-      from_c_lem a (b ∷ rest) (some (pair_of a b ∷ from_c rest)) (begins_pair a b rest p q)
+      from_c_lem a (b ∷ rest) (Some (pair_of a b ∷ from_c rest)) (begins_pair a b rest p q)
       ∙ left_wins (pair_of a b) 100 (from_c rest) (value_b a ∷ from_b (b ∷ rest)) pair_below (omega (arith, c_most rest, b_grows b rest))
 
-pub begins_none : (byte : ℕ) (rest : List ℕ) → (byte ≡ separator → ⊥) → (is_digit byte && is_digit (get_or rest 0 0)) ≡ false → begin_c byte rest ≡ none
+pub begins_none : (byte : ℕ) (rest : List ℕ) → (byte ≡ separator → ⊥) → (is_digit byte && is_digit (get_or rest 0 0)) ≡ false → begin_c byte rest ≡ None
 begins_none byte [] not_separator not-pair = rw (ne_eqb byte separator not_separator)
 begins_none byte (next ∷ more) not_separator not-pair = rw (ne_eqb byte separator not_separator, not-pair)
 
 -- any other byte has a value in set B only
 module _ (byte : ℕ) (rest : List ℕ) (not_separator : byte ≡ separator → ⊥) (not-pair : (is_digit byte && is_digit (get_or rest 0 0)) ≡ false) where
   pub other_in_b : from_b (byte ∷ rest) ≡ value_b byte ∷ from_b rest
-  other_in_b = from_b_lem byte rest none (begins_none byte rest not_separator not-pair)
+  other_in_b = from_b_lem byte rest None (begins_none byte rest not_separator not-pair)
 
   pub other_in_c : from_c (byte ∷ rest) ≡ 100 ∷ value_b byte ∷ from_b rest
-  other_in_c = from_c_lem byte rest none (begins_none byte rest not_separator not-pair)
+  other_in_c = from_c_lem byte rest None (begins_none byte rest not_separator not-pair)
 
 module _ (text : List ℕ) where
   pub start_in_b : length (from_b text) ≤ length (from_c text) → best_spelling text ≡ 104 ∷ 102 ∷ from_b text

@@ -109,7 +109,7 @@ module _ (best before message : List ℕ) (c : Bool) (i n : ℕ) (values : List 
   left : drop n best ≡ step.value ∷ from step.c (drop step.next message)
   left = w.left ∙ on.best
 
-  pub value_within : n < length best
+  value_within : n < length best
   value_within = omega (arith, ap length left, length-drop n best)
 
   pub written_more : Written best before message step.c step.next (n + 1) (set values n step.value)

@@ -2,8 +2,7 @@
 -- only B and C, compare the values from the start on; at the first difference the smaller value wins." Set A and shifts never make a
 -- spelling shorter, so B and C are all that is looked at. What is best from B and what is best from C come together, from the end of the
 -- message on.
-use Rattle.std.specs.Prelude.{ℕ, ◌+◌, ◌-◌, ◌*◌, ◌<◌, ◌≡◌, Bool, true, false, cond, ◌&&◌, List, [], ◌∷◌, length, get_or, take, eqb, ltb}
-use Rattle.std.proofs.Math.Option.{Option, some, none}
+use Rattle.std.specs.Prelude.{ℕ, ◌+◌, ◌-◌, ◌*◌, ◌<◌, ◌≡◌, Bool, true, false, cond, ◌&&◌, List, [], ◌∷◌, length, get_or, take, eqb, ltb, Option, Some, None}
 use Rattle.digits.specs.Digit.{is_digit, value_of}
 use Rattle.character_set_82.specs.Characters.{separator}
 
@@ -43,15 +42,15 @@ value_b byte = cond (eqb byte separator) 102 (byte - 32)
 -- the best that begins with a character of set C that is no change: FNC1, or two digits. `after` is what is best past the first byte,
 -- `after2` past the second
 abbrev pub first_c : ℕ → List ℕ → Best → Best → Option (List ℕ)
-first_c byte [] after after2 = cond (eqb byte separator) (some (102 ∷ after.in_c)) none
+first_c byte [] after after2 = cond (eqb byte separator) (Some (102 ∷ after.in_c)) None
 first_c byte (next ∷ rest) after after2 =
-    cond (eqb byte separator) (some (102 ∷ after.in_c))
-    (cond (is_digit byte && is_digit next) (some ((10 * value_of byte + value_of next) ∷ after2.in_c)) none)
+    cond (eqb byte separator) (Some (102 ∷ after.in_c))
+    (cond (is_digit byte && is_digit next) (Some ((10 * value_of byte + value_of next) ∷ after2.in_c)) None)
 
 -- from set B: stay there, or change (99) first; from set C likewise (100)
 abbrev pub chosen : List ℕ → Option (List ℕ) → Best
-chosen b none = record { in_b = b; in_c = 100 ∷ b }
-chosen b (some c) = record { in_b = better_of b (99 ∷ c); in_c = better_of c (100 ∷ b) }
+chosen b None = record { in_b = b; in_c = 100 ∷ b }
+chosen b (Some c) = record { in_b = better_of b (99 ∷ c); in_c = better_of c (100 ∷ b) }
 
 abbrev pub nothing : Best
 nothing = record { in_b = []; in_c = [] }

@@ -47,6 +47,7 @@ pub fn spell(message: &[u8], values: &mut [u8]) -> usize
     values[1] = FNC1;
     let mut n = 2;
     let mut i = 0;
+    // A step goes on by one byte, by two, or at a change of set by none.
     while i < message.len() {
         let step = step_from(message, states[i], c, i);
         values[n] = step.value;
@@ -67,10 +68,7 @@ fn starts_in_c(state: u8) -> bool
 fn start_of(c: bool) -> u8
     ensures { result ≡ cond c 105 104 }
 {
-    if c {
-        return 105;
-    }
-    104
+    if c { 105 } else { 104 }
 }
 
 // Finds the state at each place; and answers the first.
@@ -80,9 +78,7 @@ fn plan(message: &[u8], states: &mut [u8]) -> u8
     ensures states_of { StatesOf message.now states.new }
 {
     let mut state = STAYS;
-    let mut i = message.len();
-    while 0 < i {
-        i -= 1;
+    for i in (0..message.len()).rev() {
         state = state_at(message[i], state);
         states[i] = state;
     }
@@ -95,12 +91,12 @@ fn state_at(byte: u8, past: u8) -> u8
     ensures { result ≡ state_at byte past }
 {
     if digits::is_digit(byte) {
-        return AT_DIGIT[past as usize];
+        AT_DIGIT[past as usize]
+    } else if byte == SEPARATOR {
+        AT_SEPARATOR[past as usize]
+    } else {
+        IN_B
     }
-    if byte == SEPARATOR {
-        return AT_SEPARATOR[past as usize];
-    }
-    IN_B
 }
 
 // The value at a place, in the set that is on, by the state there.
@@ -111,9 +107,10 @@ fn step_from(message: &[u8], state: u8, c: bool, at: usize) -> Step
     ensures { Steps message.now c at result }
 {
     if c {
-        return step_in_c(message, state, at);
+        step_in_c(message, state, at)
+    } else {
+        step_in_b(message, state, at)
     }
-    step_in_b(message, state, at)
 }
 
 // The change to C, or a byte's value.

@@ -1,87 +1,80 @@
--- What a splitter has written after so many turns: the records of so many strings, each looked for where the one before it says, and then
--- what the list held. After as many turns as the rule has strings these are the rule's own records.
-use Prim.Native.Nat.{ℕ, zero, suc, ◌+◌, ◌≤◌, ◌<◌, min}
-use mathlib.Core.Path.{◌≡◌, refl, sym, ap, ◌∙◌, subst}
+-- What a splitter has written after so many turns: the records of so many of the rule's strings, and then what the list held. Each next
+-- string is found where the one before it says, so after as many turns as the rule has strings all their records stand there.
+use Rattle.std.specs.Prelude.{Result}
+use Prim.Native.Nat.{ℕ, suc, ◌+◌, ◌≤◌, ◌<◌, min}
+use mathlib.Core.Path.{◌≡◌, refl, sym, ap, ap₂, ◌∙◌, subst}
 use mathlib.Core.Bool.{Bool, true, false}
 use mathlib.Core.List.{List, [], ◌∷◌, ◌++◌, map, append-nil, append_assoc}
-use native.Mathlib.Nat.{add-zero, add-suc, suc-add}
 use native.Mathlib.Omega.{arith}
-use lib.ListN.{length, take, drop, set, get_or, replicate, length-append, length-take, length-drop, length-map, take-append-drop}
+use lib.ListN.{length, take, drop, set, get_or, replicate, length-append, length-take, length-map, take-append-drop, drop_of_length-le}
+use native.Mathlib.Numerals.{add-one}
+use Rattle.std.proofs.lemmas.List.{map-append, nil_from_length}
 use lib.Seq.{drop-cons, drop-append-le, append_snoc, set_at}
-use Rattle.refusal.specs.declared.Answer.{Answer}
 use Rattle.refusal.specs.declared.Refusal.{Refusal}
 use Rattle.refusal.specs.declared.Refusal.TheVariants.{Room}
 use Rattle.refusal.specs.Outcome.{Outcome, made, refused}
 use Rattle.refusal.specs.Fills.{Fills}
-use Rattle.refusal.proofs.OutcomeLaws.{bind_made}
+use Rattle.refusal.proofs.OutcomeLaws.{made_not_refused, made_same, bind_made}
 use Rattle.refusal.proofs.FillsLaws.{laying_made, laying_refused, made_of_laying, fills_within}
 use Rattle.elements.specs.declared.Element.{Element}
 use Rattle.splitting.specs.declared.Record.{Record}
-use Rattle.splitting.specs.declared.records.Located.{Located}
 use Rattle.elements.specs.Strings.{string_at, tested}
 use Rattle.splitting.specs.Splitting.{record_of, splits}
-use Rattle.splitting.specs.Records.{blank_record, plan_of, located_of}
+use Rattle.splitting.specs.Records.{blank_record}
 use Rattle.elements.proofs.FromRule.{tested_made}
 use Rattle.elements.proofs.WalkLaws.{From, First, first_of, from_start}
 
--- what is found at a place
-abbrev pub found_at : List ℕ → ℕ → Located
-found_at message at = located_of (string_at message at)
+-- where a splitter stands after i turns: as many strings are passed, whose records are stored, and the walk goes on along the others
+pub record Turn (message : List ℕ) (lent : List Record) (strings : List Element) (i at : ℕ) (now : List Record) : Type 0 where
+  pub passed : List Element
+  pub left : List Element
+  pub parts : strings ≡ passed ++ left
+  pub turns : length passed ≡ i
+  pub stored : now ≡ map record_of passed ++ drop i lent
+  pub used : List ℕ
+  pub walk : i < length strings → From message at used left
 
--- where the string after so many others is looked for
-abbrev pub place_after : List ℕ → ℕ → ℕ
-place_after message zero = 0
-place_after message (suc k) = (found_at message (place_after message k)).next
+pub turn_first : (message : List ℕ) (lent : List Record) (strings : List Element) → tested message ≡ made strings → Turn message lent strings 0 0 lent
+turn_first message lent strings e =
+    record { passed = []; left = strings; parts = refl; turns = refl; stored = refl; used = []; walk = λ _. from_start message strings (tested_made message strings e).strings }
 
--- the record of the string after so many others
-abbrev pub record_after : List ℕ → ℕ → Record
-record_after message k = (found_at message (place_after message k)).string
+module _ (message : List ℕ) (lent : List Record) (strings : List Element) (i at : ℕ) (now : List Record) (turn : Turn message lent strings i at now) where
+  -- while strings are left, one is found
+  module _ (more : i < length strings) where
+    abbrev first : First message at turn.used turn.left
+    first = first_of message at turn.left (turn.walk more)
 
-abbrev pub first_records : List ℕ → ℕ → List Record
-first_records message zero = []
-first_records message (suc k) = first_records message k ++ (record_after message k ∷ [])
+    pub turn_found : (f : Refusal) → string_at message at ≡ refused f → ⊥
+    turn_found f e = made_not_refused first.string f (sym first.here ∙ e)
 
--- the lent list after so many turns
-abbrev pub stored : List ℕ → List Record → ℕ → List Record
-stored message records k = first_records message k ++ drop k records
+    pub turn_next : (string : Element) → string_at message at ≡ made string → i < length lent → Turn message lent strings (i + 1) string.next (set now i (record_of string))
+    turn_next string here room =
+        let found = first.string in
+        let own = record_of found in
+        let front = map record_of turn.passed in
+        let rest = drop (suc i) lent in
+        let passed = turn.passed ++ (found ∷ []) in
+        let parts : strings ≡ passed ++ first.more = turn.parts ∙ ap (λ (left : List Element). turn.passed ++ left) first.split ∙ sym (append_snoc turn.passed found first.more) in
+        let turns : length passed ≡ suc i = omega (arith, length-append turn.passed (found ∷ []), turn.turns) in
+        let stored : set now i own ≡ map record_of passed ++ rest =
+        ap (λ (records : List Record). set records i own) (turn.stored ∙ ap (λ (left : List Record). front ++ left) (drop-cons lent i blank_record room))
+        ∙ set_at front (get_or lent i blank_record) rest own i (length-map turn.passed record_of ∙ turn.turns)
+        ∙ sym (append_snoc front own rest)
+        ∙ ap (λ (records : List Record). records ++ rest) (sym (map-append record_of turn.passed (found ∷ []))) in
+        subst (λ (s : Element). Turn message lent strings (i + 1) s.next (set now i (record_of s))) (made_same _ _ (sym first.here ∙ here))
+        (subst (λ (k : ℕ). Turn message lent strings k found.next (set now i own)) (sym (add-one i))
+        (record { passed = passed; left = first.more; parts = parts; turns = turns; stored = stored; used = turn.used ++ (found.identifier ∷ []); walk = λ further. go found.last refl (omega (arith, ap length parts, length-append passed first.more)) }))
+      where
+        go : (last : Bool) → first.string.last ≡ last → 1 ≤ length first.more → From message first.string.next (turn.used ++ (first.string.identifier ∷ [])) first.more
+        go true is some = absurd (omega (arith, ap length (first.ends is)))
+        go false is some = first.goes is
 
-length_first : (message : List ℕ) (k : ℕ) → length (first_records message k) ≡ k
-length_first message zero = refl
-length_first message (suc k) = omega (arith, length-append (first_records message k) (record_after message k ∷ []), length_first message k)
-
-pub stored_length : (message : List ℕ) (records : List Record) (k : ℕ) → k ≤ length records → length (stored message records k) ≡ length records
-stored_length message records k h = omega (arith, length-append (first_records message k) (drop k records), length_first message k, length-drop k records)
-
--- one turn more is one record stored
-pub stored_more : (message : List ℕ) (records : List Record) (k : ℕ) → k < length records → set (stored message records k) k (record_after message k) ≡ stored message records (suc k)
-stored_more message records k h =
-    ap (λ (rest : List Record). set (first_records message k ++ rest) k (record_after message k)) (drop-cons records k blank_record h)
-    ∙ set_at (first_records message k) (get_or records k blank_record) (drop (suc k) records) (record_after message k) k (length_first message k)
-    ∙ sym (append_snoc (first_records message k) (record_after message k) (drop (suc k) records))
-
--- the rule's strings from where so many turns have come, as records
-first_from : (message : List ℕ) (k : ℕ) {used : List ℕ} (strings : List Element) → From message (place_after message k) used strings → first_records message (k + length strings) ≡ first_records message k ++ map record_of strings
-first_from message k [] f = ap (first_records message) (add-zero k) ∙ sym (append-nil (first_records message k))
-first_from message k {used} (string ∷ strings) f =
-    let a = first_of message (place_after message k) (string ∷ strings) f in
-    let here : string_at message (place_after message k) ≡ made string = a.here ∙ ap made (cc a.split) in
-    let rest = go a a.string.last refl here (λ g. first_from message (suc k) strings g) in
-    ap (first_records message) (add-suc k (length strings) ∙ sym (suc-add k (length strings)))
-    ∙ rest
-    ∙ append_snoc (first_records message k) (record_after message k) (map record_of strings)
-    ∙ ap (λ (o : Outcome Element). first_records message k ++ (located_of o).string ∷ map record_of strings) here
-  where
-    Rest : List Element → Type 0
-    Rest rest = first_records message (suc k + length rest) ≡ first_records message (suc k) ++ map record_of rest
-
-    go : (a : First message (place_after message k) used (string ∷ strings)) (last : Bool) → a.string.last ≡ last → string_at message (place_after message k) ≡ made string → (From message (place_after message (suc k)) (used ++ (a.string.identifier ∷ [])) strings → Rest strings) → Rest strings
-    go a true is here later =
-        let none : [] ≡ strings = sym (a.ends is) ∙ cc a.split in
-        subst Rest none (ap (first_records message) (add-zero (suc k)) ∙ sym (append-nil (first_records message (suc k))))
-    go a false is here later =
-        let next : a.string.next ≡ place_after message (suc k) = sym (ap (λ (o : Outcome Element). (located_of o).next) a.here) in
-        let same : a.more ≡ strings = cc a.split in
-        later (rw (next, same) at (a.goes is))
+  -- and when none is left, the records of all are stored
+  pub turn_last : i ≡ length strings → i ≡ length lent → now ≡ map record_of strings
+  turn_last over full =
+      let none : turn.left ≡ [] = nil_from_length turn.left (omega (arith, ap length turn.parts, length-append turn.passed turn.left, turn.turns)) in
+      let all : turn.passed ≡ strings = sym (turn.parts ∙ ap (λ (left : List Element). turn.passed ++ left) none ∙ append-nil turn.passed) in
+      turn.stored ∙ ap₂ (λ (passed : List Element) (rest : List Record). map record_of passed ++ rest) all (drop_of_length-le lent (omega arith)) ∙ append-nil (map record_of strings)
 
 -- the rule, by what the test of the message came to
 module _ (message : List ℕ) (room : ℕ) where
@@ -111,28 +104,8 @@ splits_made message room records e =
     let b = made_of_laying (map record_of a.0) records room a.2 in
     record { strings = a.0; accepted = a.1; enough = omega (arith, b.0, length-map a.0 record_of); same = b.1 }
 
--- no more turns than there are places
-pub plan_within : (message : List ℕ) (room : ℕ) → (plan_of (splits message room)).count ≤ room
-plan_within message room = go (splits message room) refl
-  where
-    go : (o : Outcome (List Record)) → splits message room ≡ o → (plan_of o).count ≤ room
-    go (made records) is = let s = splits_made message room records is in omega (arith, s.enough, ap length s.same, length-map s.strings record_of)
-    go (refused f) is = omega arith
-
--- what stands in the list after the planned turns is what the rule promises
-pub plan_fills : (message : List ℕ) (records : List Record) → Fills (splits message (length records)) records (plan_of (splits message (length records))).answer (stored message records (plan_of (splits message (length records))).count)
-plan_fills message records = go (splits message (length records)) refl
-  where
-    go : (o : Outcome (List Record)) → splits message (length records) ≡ o → Fills o records (plan_of o).answer (stored message records (plan_of o).count)
-    go (made made-records) is =
-        let s = splits_made message (length records) made-records is in
-        let all = first_from message 0 s.strings (from_start message s.strings (tested_made message s.strings s.accepted).strings) in
-        let count : 0 + length s.strings ≡ length made-records = omega (arith, ap length s.same, length-map s.strings record_of) in
-        record { answer = refl; lent = ap (λ (front : List Record). front ++ drop (length made-records) records) (ap (first_records message) (sym count) ∙ all ∙ s.same) }
-    go (refused f) is = record { answer = refl; lent = refl }
-
 -- a longer list of which only the front was lent
-fills_longer : (o : Outcome (List Record)) (before more : List Record) (r : Answer) (after : List Record) → Fills o before r after → length after ≡ length before → Fills o (before ++ more) r (after ++ more)
+fills_longer : (o : Outcome (List Record)) (before more : List Record) (r : Result ℕ Refusal) (after : List Record) → Fills o before r after → length after ≡ length before → Fills o (before ++ more) r (after ++ more)
 fills_longer (made xs) before more r after h kept =
     let within = fills_within (made xs) before r after h kept (length xs) h.answer in
     record {
@@ -157,10 +130,7 @@ front_length room = omega (arith, length-take (min room 12) twelve)
 pub twelve_parts : (room : ℕ) → twelve ≡ front_of room ++ rest_of room
 twelve_parts room = sym (take-append-drop (min room 12) twelve)
 
-pub twelve_whole : (room : ℕ) (records : List Record) → length records ≡ length (front_of room) → length (records ++ rest_of room) ≡ 12
-twelve_whole room records e = omega (arith, length-append records (rest_of room), length-append (front_of room) (rest_of room), ap length (twelve_parts room))
-
-pub twelve_filled : (message : List ℕ) (room : ℕ) (r : Answer) (records : List Record) → Fills (splits message (length (front_of room))) (front_of room) r records → length records ≡ length (front_of room) → Fills (splits message (min room 12)) twelve r (records ++ rest_of room)
+pub twelve_filled : (message : List ℕ) (room : ℕ) (r : Result ℕ Refusal) (records : List Record) → Fills (splits message (length (front_of room))) (front_of room) r records → length records ≡ length (front_of room) → Fills (splits message (min room 12)) twelve r (records ++ rest_of room)
 twelve_filled message room r records h kept =
     subst (λ (before : List Record). Fills (splits message (min room 12)) before r (records ++ rest_of room)) (sym (twelve_parts room))
     (fills_longer (splits message (min room 12)) (front_of room) (rest_of room) r records (subst (λ (n : ℕ). Fills (splits message n) (front_of room) r records) (sym (front_length room)) h) kept)

@@ -2,7 +2,7 @@
 -- else GS1-128. A count of no kind is refusal 1." Document 02, request 1: "A list of 33 widths now counts as this kind."
 use Rattle.std.specs.Prelude.{ℕ, Bool, cond, List, length, get_or, eqb}
 use Rattle.refusal.specs.declared.Refusal.TheVariants.{Count}
-use Rattle.refusal.specs.Outcome.{Outcome, made, refused, ◌>>◌, must}
+use Rattle.refusal.specs.Outcome.{Outcome, made, ◌>>◌, must}
 use Rattle.ean13.specs.Ean13.{reads as reads13, writes as writes13}
 use Rattle.ean8.specs.Ean8.{reads as reads8, writes as writes8}
 use Rattle.upc_e.specs.UpcE.{reads as reads_e, writes as writes_e}
@@ -11,8 +11,6 @@ use Rattle.gs1_128.specs.Symbol.{permitted}
 use Rattle.gs1_128.specs.Rules as Gs1
 use Rattle.symbols.specs.declared.Kind.{Kind}
 use Rattle.symbols.specs.declared.Kind.TheVariants.{Ean13, Ean8, UpcE, Itf14, Gs1128}
-use Rattle.symbols.specs.declared.Named.{Named}
-use Rattle.symbols.specs.declared.Named.TheVariants.{As, Refused}
 
 -- whether a kind has symbols of so many widths
 abbrev pub has_count : Kind → ℕ → Bool
@@ -49,8 +47,3 @@ writes_as Ean8 = writes8
 writes_as UpcE = writes_e
 writes_as Itf14 = writes14
 writes_as Gs1128 = Gs1.writes
-
--- the answer of the call that names the kind
-abbrev pub named_of : Outcome Kind → Named
-named_of (made kind) = As kind
-named_of (refused f) = Refused f

@@ -1,10 +1,9 @@
 -- The reading of an unnamed list: the kind that is named, and what the list holds read as that kind.
-use Rattle.std.specs.Prelude.{ℕ, ◌≡◌, List, length}
+use Rattle.std.specs.Prelude.{ℕ, ◌≡◌, List, length, Result, Ok, Err}
 use Rattle.refusal.specs.Outcome.{Outcome, made, refused, ◌>>=◌}
 use Rattle.refusal.specs.Fills.{laid}
 use Rattle.symbols.specs.declared.Kind.{Kind}
-use Rattle.symbols.specs.declared.Reading.{Reading}
-use Rattle.symbols.specs.declared.Reading.TheVariants.{Read, Refused}
+use Rattle.refusal.specs.declared.Refusal.{Refusal}
 use Rattle.symbols.specs.Kinds.{kind_of, reads_as}
 
 unfoldable pub reads : List ℕ → ℕ → Outcome (Kind × List ℕ)
@@ -14,15 +13,15 @@ reads widths room = do
   made (kind, bytes)
 
 -- a call whose rule makes a kind and bytes answers the kind and their count
-abbrev pub reading_of : Outcome (Kind × List ℕ) → Reading
-reading_of (made read) = Read read.0 (length read.1)
-reading_of (refused f) = Refused f
+abbrev pub reading_of : Outcome (Kind × List ℕ) → Result (Kind × ℕ) Refusal
+reading_of (made read) = Ok (read.0, length read.1)
+reading_of (refused f) = Err f
 
 abbrev pub bytes_of : Outcome (Kind × List ℕ) → Outcome (List ℕ)
 bytes_of (made read) = made read.1
 bytes_of (refused f) = refused f
 
 -- a call that was lent `before` answers r and leaves `after`: document 01's promise of a lent list, with the kind beside the count
-pub record FillsNamed (o : Outcome (Kind × List ℕ)) (before : List ℕ) (r : Reading) (after : List ℕ) : Type 0 where
+pub record FillsNamed (o : Outcome (Kind × List ℕ)) (before : List ℕ) (r : Result (Kind × ℕ) Refusal) (after : List ℕ) : Type 0 where
   pub answer : r ≡ reading_of o
   pub lent : after ≡ laid (bytes_of o) before

@@ -2,15 +2,15 @@
 #![tactic(auto)]
 
 ghost use Rattle.std.specs.Prelude.{◌≡◌, length};
-ghost use Rattle.refusal.specs.Fills.{Fills};
-ghost use Rattle.symbols.specs.Kinds.{kind_of, reads_as, writes_as, named_of};
+ghost use Rattle.refusal.specs.Fills.{Fills, answered};
+ghost use Rattle.symbols.specs.Kinds.{kind_of, reads_as, writes_as};
 ghost use Rattle.symbols.specs.Readings.{reads, FillsNamed};
 
 use ean8::Ean8;
 use ean13::Ean13;
 use gs1_128::Gs1128;
 use itf14::Itf14;
-use refusal::{Answer, Refusal};
+use refusal::Refusal;
 use upc_e::UpcE;
 
 #[derive(Clone, Copy)]
@@ -22,64 +22,43 @@ pub enum Kind {
     Gs1128,
 }
 
-// The kind that a list of widths is taken for; or why it is none.
-#[derive(Clone, Copy)]
-pub enum Named {
-    As(Kind),
-    Refused(Refusal),
-}
-
-// The kind of a symbol and how many bytes were read; or why there are none.
-#[derive(Clone, Copy)]
-pub enum Reading {
-    Read(Kind, usize),
-    Refused(Refusal),
-}
-
 // Reads a symbol of any kind: its kind is named, and it is read as that.
-pub fn read(widths: &[u8], bytes: &mut [u8]) -> Reading
+pub fn read(widths: &[u8], bytes: &mut [u8]) -> Result<(Kind, usize), Refusal>
     ensures { FillsNamed (reads widths.now (length bytes.old)) bytes.old result bytes.new }
 {
-    let named = kind_of(widths);
-    let kind = match named {
-        Named::As(kind) => kind,
-        Named::Refused(refusal) => return Reading::Refused(refusal),
-    };
-    let answer = read_as(kind, widths, bytes);
-    match answer {
-        Answer::Done(count) => Reading::Read(kind, count),
-        Answer::Refused(refusal) => Reading::Refused(refusal),
-    }
+    let kind = kind_of(widths)?;
+    let count = read_as(kind, widths, bytes)?;
+    Ok((kind, count))
 }
 
 // Names the kind by the count of widths, and where two kinds have the count, by the first width; or refuses as 1.
-pub fn kind_of(widths: &[u8]) -> Named
-    ensures { result ≡ named_of (kind_of widths.now) }
+pub fn kind_of(widths: &[u8]) -> Result<Kind, Refusal>
+    ensures { result ≡ answered (kind_of widths.now) }
 {
     let count = widths.len();
     if count == Ean13::WIDTHS {
-        return Named::As(Kind::Ean13);
+        return Ok(Kind::Ean13);
     }
     if count == Ean8::WIDTHS {
         if widths[0] == 1 {
-            return Named::As(Kind::Ean8);
+            return Ok(Kind::Ean8);
         }
-        return Named::As(Kind::Gs1128);
+        return Ok(Kind::Gs1128);
     }
     if count == UpcE::WIDTHS {
-        return Named::As(Kind::UpcE);
+        return Ok(Kind::UpcE);
     }
     if count == Itf14::WIDTHS {
-        return Named::As(Kind::Itf14);
+        return Ok(Kind::Itf14);
     }
     if !Gs1128::permits(count) {
-        return Named::Refused(Refusal::Count);
+        return Err(Refusal::Count);
     }
-    Named::As(Kind::Gs1128)
+    Ok(Kind::Gs1128)
 }
 
 // Reads a symbol of a named kind.
-pub fn read_as(kind: Kind, widths: &[u8], bytes: &mut [u8]) -> Answer
+pub fn read_as(kind: Kind, widths: &[u8], bytes: &mut [u8]) -> Result<usize, Refusal>
     ensures { Fills (reads_as kind widths.now (length bytes.old)) bytes.old result bytes.new }
 {
     match kind {
@@ -92,7 +71,7 @@ pub fn read_as(kind: Kind, widths: &[u8], bytes: &mut [u8]) -> Answer
 }
 
 // Draws a symbol of a named kind.
-pub fn write_as(kind: Kind, content: &[u8], widths: &mut [u8]) -> Answer
+pub fn write_as(kind: Kind, content: &[u8], widths: &mut [u8]) -> Result<usize, Refusal>
     ensures { Fills (writes_as kind content.now (length widths.old)) widths.old result widths.new }
 {
     match kind {

@@ -1,5 +1,6 @@
 -- A number written and read again is the same number: its digits are digits, and reading one digit more takes the number so far ten
 -- times and adds it, which undoes the writer's step from a number to its tenth part.
+use Rattle.std.specs.Prelude.{Some}
 use Prim.Native.Nat.{ℕ, zero, suc, ◌+◌, ◌*◌, ◌/◌, ◌≤◌, ◌<◌}
 use mathlib.Core.Path.{◌≡◌, refl, ◌∙◌}
 use mathlib.Core.Bool.{true}
@@ -13,7 +14,6 @@ use Rattle.laws.specs.First.{first_not}
 use Rattle.laws.proofs.FirstLaws.{first_of_nil}
 use Rattle.laws.proofs.FirstChanged.{pass_last}
 use Rattle.digits.specs.Digit.{is_digit, value_of}
-use Rattle.text.specs.declared.Number.TheVariants.{Is}
 use Rattle.text.specs.Decimal.{last_of, decimal_of}
 use Rattle.text.specs.Numeral.{number_from, number_in}
 use Rattle.text.proofs.DecimalLaws.{decimal_one, decimal_more, length_some}
@@ -42,7 +42,7 @@ written (suc steps) n h = go (dec_lt n 10) (λ large. written steps (n / 10) (om
         rw (decimal_more n (omega arith))
         (pass_last is_digit (decimal_of (n / 10)) (last_of n) before.0 (last_is_digit n), number_then 0 (decimal_of (n / 10)) (last_of n) ∙ omega (arith, before.1))
 
-pub number_of_decimal : (n most : ℕ) → n ≤ most → number_in (decimal_of n) most ≡ Is n
+pub number_of_decimal : (n most : ℕ) → n ≤ most → number_in (decimal_of n) most ≡ Some n
 unfolding number_in
 number_of_decimal n most h =
     let back = written (suc n) n (omega arith) in

@@ -8,7 +8,7 @@ use native.Mathlib.Decide.{dec_lt}
 use native.Mathlib.Omega.{arith}
 use lib.ListN.{length, length-append}
 use borrow.Author.Tests.{lt-ltb, le-ltb}
-use Rattle.text.specs.Decimal.{last_of, decimal_in, decimal_of, apart}
+use Rattle.text.specs.Decimal.{last_of, decimal_in, decimal_of}
 
 one_step : (k n : ℕ) → n < 10 → decimal_in (suc k) n ≡ last_of n ∷ []
 unfolding decimal_in
@@ -59,6 +59,3 @@ length_of_decimal (suc k) n h = go (dec_lt n 10) (λ large. length_of_decimal k 
     go : Dec (n < 10) → (10 ≤ n → length (decimal_of (n / 10)) ≤ suc k) → length (decimal_of n) ≤ suc (suc k)
     go (yes small) tenth = omega (arith, length_one n small)
     go (no large) tenth = omega (arith, length_more n (omega arith), tenth (omega arith))
-
-pub length_of_apart : (first second : ℕ) → length (apart first second) ≡ length (decimal_of first) + length (decimal_of second) + 1
-length_of_apart first second = simp length-append (omega arith)

@@ -1,5 +1,6 @@
 -- A numeral, met by a loop that reads it from the left: the number so far and the digits that are left say the whole, and the number so
 -- far is never more than the whole.
+use Rattle.std.specs.Prelude.{Option, Some, None}
 use Prim.Native.Nat.{ℕ, suc, ◌+◌, ◌*◌, ◌≤◌, ◌<◌, min}
 use mathlib.Core.Path.{◌≡◌, refl, sym, ◌∙◌}
 use mathlib.Core.Bool.{Bool, true, false, cond, ◌&&◌}
@@ -13,8 +14,6 @@ use lib.Dec.{leb}
 use borrow.Author.Tests.{lt-leb, leb-true}
 use Rattle.laws.proofs.Booleans.{both_hold}
 use Rattle.digits.specs.Digit.{value_of}
-use Rattle.text.specs.declared.Number.{Number}
-use Rattle.text.specs.declared.Number.TheVariants.{Is, Malformed}
 use Rattle.text.specs.Numeral.{is_numeral, number_from, number_in, capped_in}
 
 pub number_of_nil : (n : ℕ) → number_from n [] ≡ n
@@ -43,26 +42,26 @@ capped_more n cap bytes = go (dec_le n cap)
         ∙ sym (min-eq_right {n = cap} {m = number_from n bytes} (omega (arith, number_grows n bytes))))
 
 -- what a numeral says that was cut to one more than it may say
-abbrev pub uncut : ℕ → Number → Number
-uncut most (Is n) = cond (leb n most) (Is n) Malformed
-uncut most Malformed = Malformed
+abbrev pub uncut : ℕ → Option ℕ → Option ℕ
+uncut most (Some n) = cond (leb n most) (Some n) None
+uncut most None = None
 
 pub number_of_capped : (bytes : List ℕ) (most : ℕ) → number_in bytes most ≡ uncut most (capped_in bytes (most + 1))
 unfolding number_in capped_in
 number_of_capped bytes most = go (is_numeral bytes) (dec_le (number_from 0 bytes) most)
   where
-    go : (b : Bool) → Dec (number_from 0 bytes ≤ most) → cond (b && leb (number_from 0 bytes) most) (Is (number_from 0 bytes)) Malformed ≡ uncut most (cond b (Is (min (number_from 0 bytes) (most + 1))) Malformed)
+    go : (b : Bool) → Dec (number_from 0 bytes ≤ most) → cond (b && leb (number_from 0 bytes) most) (Some (number_from 0 bytes)) None ≡ uncut most (cond b (Some (min (number_from 0 bytes) (most + 1))) None)
     go true (yes few) = rw (min-eq_left {n = number_from 0 bytes} {m = most + 1} (omega arith))
     go true (no many) =
         rw (min-eq_right {n = most + 1} {m = number_from 0 bytes} (omega arith), lt-leb (most + 1) most (omega arith), lt-leb (number_from 0 bytes) most (omega arith))
     go false d = refl
 
 -- a number that is read is no more than the most that it may be
-pub number_within : (bytes : List ℕ) (most n : ℕ) → Is n ≡ number_in bytes most → n ≤ most
+pub number_within : (bytes : List ℕ) (most n : ℕ) → Some n ≡ number_in bytes most → n ≤ most
 unfolding number_in
 number_within bytes most n e = go (is_numeral bytes && leb (number_from 0 bytes) most) refl e
   where
-    go : (b : Bool) → (is_numeral bytes && leb (number_from 0 bytes) most) ≡ b → Is n ≡ cond b (Is (number_from 0 bytes)) Malformed → n ≤ most
+    go : (b : Bool) → (is_numeral bytes && leb (number_from 0 bytes) most) ≡ b → Some n ≡ cond b (Some (number_from 0 bytes)) None → n ≤ most
     go true t is =
         let same : n ≡ number_from 0 bytes = cc in
         omega (arith, leb-true (number_from 0 bytes) most (both_hold (is_numeral bytes) (leb (number_from 0 bytes) most) t).1)

@@ -1,13 +1,9 @@
 -- Document 01, "Examples on each side": "the widths run together". No width that is drawn has two digits. Typed, widths are digits too, one to
 -- a width; or, with spaces between them, decimal numbers from 0 to 255.
-use Rattle.std.specs.Prelude.{ℕ, ◌+◌, ◌≡◌, cond, List, [], ◌∷◌, map, length, take, eqb}
+use Rattle.std.specs.Prelude.{ℕ, ◌+◌, ◌≡◌, cond, List, [], ◌∷◌, map, length, take, eqb, Option, Some, None}
 use Rattle.laws.specs.First.{first_not}
 use Rattle.digits.specs.Digit.{is_digit, value_of}
 use Rattle.lines.specs.Cut.{other_than, cut_at}
-use Rattle.text.specs.declared.Number.{Number}
-use Rattle.text.specs.declared.Number.TheVariants.{Is, Malformed}
-use Rattle.text.specs.declared.widths.Widths.{Widths}
-use Rattle.text.specs.declared.widths.Widths.TheVariants.{Count, Malformed as Unread}
 use Rattle.text.specs.Numeral.{number_in}
 
 abbrev pub run_together : List ℕ → List ℕ
@@ -19,10 +15,10 @@ pub data Said : Type 0 where
   nothing : Said
 
 -- one width more, before the others
-abbrev pub before : Number → Said → Said
-before (Is width) (widths more) = widths (width ∷ more)
-before (Is width) nothing = nothing
-before Malformed said = nothing
+abbrev pub before : Option ℕ → Said → Said
+before (Some width) (widths more) = widths (width ∷ more)
+before (Some width) nothing = nothing
+before None said = nothing
 
 unfoldable pub numbers_of : List (List ℕ) → Said
 numbers_of [] = widths []
@@ -37,11 +33,11 @@ digits_in typed = cond (eqb (first_not is_digit typed) (length typed)) (widths (
 unfoldable pub widths_in : List ℕ → Said
 widths_in typed = cond (eqb (first_not (other_than 32) typed) (length typed)) (digits_in typed) (numbers_in typed)
 
-abbrev pub count_of : Said → Widths
-count_of (widths list) = Count (length list)
-count_of nothing = Unread
+abbrev pub count_of : Said → Option ℕ
+count_of (widths list) = Some (length list)
+count_of nothing = None
 
 -- a function that was to take what a text says answers r and leaves `after`: the widths stand at its front
-pub record Takes (said : Said) (r : Widths) (after : List ℕ) : Type 0 where
+pub record Takes (said : Said) (r : Option ℕ) (after : List ℕ) : Type 0 where
   pub count : r ≡ count_of said
   pub front : (list : List ℕ) → said ≡ widths list → take (length list) after ≡ list

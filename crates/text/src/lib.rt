@@ -4,20 +4,13 @@
 mod typed;
 mod widths;
 
-ghost use Rattle.std.specs.Prelude.{◌≡◌, ◌≤◌, min, length};
+ghost use Rattle.std.specs.Prelude.{◌≡◌, ◌≤◌, length};
 ghost use Rattle.text.specs.Puts.{Puts};
 ghost use Rattle.text.specs.Decimal.{last_of, decimal_of, apart_by, apart, record_text};
 ghost use Rattle.text.specs.Numeral.{number_in, capped_in};
 
 pub use typed::{message_in, put_fitting, put_message};
-pub use widths::{Widths, put_widths, widths_in};
-
-// What a numeral is read as.
-#[derive(Clone, Copy)]
-pub enum Number {
-    Is(usize),
-    Malformed,
-}
+pub use widths::{put_widths, widths_in};
 
 // Writes a number's digits, the fewest that hold it, and answers how many they are: 20 at most.
 pub fn put_number(n: usize, out: &mut [u8]) -> usize
@@ -63,38 +56,27 @@ fn put_apart(first: usize, byte: u8, second: usize, out: &mut [u8]) -> usize
 }
 
 // The number that a decimal numeral says, if that is at most `most`.
-pub fn number_in(bytes: &[u8], most: usize) -> Number
+pub fn number_in(bytes: &[u8], most: usize) -> Option<usize>
     requires { most ≤ 9999 }
     ensures { result ≡ number_in bytes.now most }
 {
-    let number = capped_in(bytes, most + 1);
-    let Number::Is(value) = number else {
-        return number;
-    };
-    if most < value {
-        return Number::Malformed;
-    }
-    number
+    let value = capped_in(bytes, most + 1)?;
+    if most < value { None } else { Some(value) }
 }
 
 // The number that a decimal numeral says, or `cap` where it says a larger one.
-pub fn capped_in(bytes: &[u8], cap: usize) -> Number
+pub fn capped_in(bytes: &[u8], cap: usize) -> Option<usize>
     requires { cap ≤ 10000 }
     ensures { result ≡ capped_in bytes.now cap }
 {
-    if bytes.len() < 1 {
-        return Number::Malformed;
-    }
-    if digits::first_other(bytes) < bytes.len() {
-        return Number::Malformed;
+    if bytes.is_empty() || digits::first_other(bytes) < bytes.len() {
+        return None;
     }
     let mut value = 0;
-    let mut i = 0;
-    while i < bytes.len() {
-        value = lesser(value * 10 + digits::value_of(bytes[i]), cap);
-        i += 1;
+    for byte in bytes {
+        value = (value * 10 + digits::value_of(*byte)).min(cap);
     }
-    Number::Is(value)
+    Some(value)
 }
 
 // The digits of its tenth part, and then the last one.
@@ -116,10 +98,4 @@ fn last_of(n: usize) -> u8
     ensures { result ≡ last_of n }
 {
     b'0' + (n % 10) as u8
-}
-
-fn lesser(a: usize, b: usize) -> usize
-    ensures { result ≡ min a b }
-{
-    if a < b { a } else { b }
 }

@@ -3,8 +3,6 @@ ghost use Rattle.std.specs.Prelude.{◌≡◌, map, min, length, take};
 ghost use Rattle.text.specs.Puts.{Puts};
 ghost use Rattle.text.specs.Typed.{replacing, message_of, typed_of};
 
-use crate::lesser;
-
 // Puts the message that typed bytes stand for at the front of `message`, as far as it fits, and answers the count of bytes put.
 pub fn message_in(typed: &[u8], message: &mut [u8]) -> usize
     ensures puts { Puts (take (length message.old) (message_of typed.now)) message.old result message.new }
@@ -25,7 +23,7 @@ pub fn put_message(message: &[u8], out: &mut [u8]) -> usize
 pub fn put_fitting(source: &[u8], out: &mut [u8]) -> usize
     ensures { Puts (take (length out.old) source.now) out.old result out.new }
 {
-    let count = lesser(source.len(), out.len());
+    let count = source.len().min(out.len());
     out[..count].copy_from_slice(&source[..count]);
     count
 }
@@ -34,12 +32,11 @@ fn put_replacing(old: u8, new: u8, bytes: &[u8], out: &mut [u8]) -> usize
     ensures puts { Puts (take (length out.old) (map (replacing old new) bytes.now)) out.old result out.new }
     ensures value { result ≡ min (length out.old) (length bytes.now) }
 {
-    let mut i = 0;
-    while i < bytes.len() && i < out.len() {
+    let count = bytes.len().min(out.len());
+    for i in 0..count {
         out[i] = replaced(old, new, bytes[i]);
-        i += 1;
     }
-    i
+    count
 }
 
 fn replaced(old: u8, new: u8, byte: u8) -> u8

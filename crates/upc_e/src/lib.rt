@@ -8,7 +8,7 @@ ghost use Rattle.upc_e.specs.UpcE.{writes, reads};
 mod condensing;
 mod stages;
 
-use refusal::{Answer, Refusal};
+use refusal::Refusal;
 
 // The calls on UPC-E symbols.
 #[derive(Clone, Copy)]
@@ -21,40 +21,25 @@ impl UpcE {
     pub const WIDTHS: usize = 33;
 
     // Draws a number of twelve digits: refusals 1, 2, 3, 14 and 12, or 33 widths.
-    pub fn write(number: &[u8], widths: &mut [u8]) -> Answer
+    pub fn write(number: &[u8], widths: &mut [u8]) -> Result<usize, Refusal>
         ensures { Fills (writes number.now (length widths.old)) widths.old result widths.new }
     {
         let mut digits = [0u8; UpcE::DIGITS];
-        let tested = digits::values_of(number, &mut digits);
-        let Answer::Done(_) = tested else {
-            return tested;
-        };
-        let mut short = [0u8; condensing::SHORT];
-        let condensed = condensing::condense(&digits, &mut short);
-        let Answer::Done(_) = condensed else {
-            return condensed;
-        };
-        let symbol = stages::symbol(&short);
-        refusal::lay(&symbol, widths)
+        digits::values_of(number, &mut digits)?;
+        let short = condensing::condense(&digits)?;
+        refusal::lay(&stages::symbol(&short), widths)
     }
 
     // Reads a symbol: refusals 1, 4, 5, 3, 14 and 12, or twelve digits.
-    pub fn read(widths: &[u8], number: &mut [u8]) -> Answer
+    pub fn read(widths: &[u8], number: &mut [u8]) -> Result<usize, Refusal>
         ensures { Fills (reads widths.now (length number.old)) number.old result number.new }
     {
-        let mut short = [0u8; condensing::SHORT];
-        let scanned = stages::short_in(widths, &mut short);
-        let Answer::Done(_) = scanned else {
-            return scanned;
-        };
+        let short = stages::short_in(widths)?;
         let digits = condensing::expanded(&short);
         let mut bytes = [0u8; UpcE::DIGITS];
-        let laid = digits::lay_values(&digits, &mut bytes);
-        let Answer::Done(_) = laid else {
-            return laid;
-        };
+        digits::lay_values(&digits, &mut bytes)?;
         if !condensing::is_own(&short, &digits) {
-            return Answer::Refused(Refusal::Condensed);
+            return Err(Refusal::Condensed);
         }
         refusal::lay(&bytes, number)
     }

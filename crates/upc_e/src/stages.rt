@@ -1,7 +1,7 @@
 // The stages of UPC-E: from a short number to a symbol, and from a symbol to a short number.
-ghost use Rattle.std.specs.Prelude.{◌≡◌, length};
+ghost use Rattle.std.specs.Prelude.{◌≡◌};
 ghost use Rattle.laws.specs.Below.{Below};
-ghost use Rattle.refusal.specs.Fills.{FillsOwn};
+ghost use Rattle.refusal.specs.Fills.{answered, FillsOwn};
 ghost use Rattle.upc_e.specs.UpcE.{values_in, symbol, scanned};
 
 use crate::UpcE;
@@ -10,8 +10,7 @@ use ean_upc::tables::{GUARD_WIDTHS, Sets};
 use ean_upc::{drawing, scanning, tables};
 use parity::rows::Rows;
 use parity::{letters, rows};
-use patterns::Match;
-use refusal::{Answer, Refusal};
+use refusal::Refusal;
 
 // how many digits are printed
 const PRINTED: usize = 6;
@@ -22,50 +21,44 @@ const END_GUARD: [u8; 6] = [1, 1, 1, 1, 1, 1];
 const END: usize = 27;
 
 // The check digit chooses the row of the six digits before it.
-pub(crate) fn symbol(short: &[u8]) -> [u8; UpcE::WIDTHS]
-    requires short_len { length short.now ≡ 7 }
-    requires below { Below 10 short.now }
+pub(crate) fn symbol(short: &[u8; SHORT]) -> [u8; UpcE::WIDTHS]
+    requires { Below 10 short.now }
     ensures { result ≡ symbol short.now }
 {
     let row = rows::row_of(Rows::CheckDigit, short[PRINTED] as usize);
     let values = letters::in_sets(row, &short[..PRINTED]);
     let mut symbol = [0u8; UpcE::WIDTHS];
     drawing::guarded_half(&tables::GUARD, Sets::AOrB, &values, &mut symbol[..END]);
-    refusal::lay(&END_GUARD, &mut symbol[END..]);
+    symbol[END..].copy_from_slice(&END_GUARD);
     symbol
 }
 
 // The short number that widths hold: the characters' digits, and the one whose row their letters are.
-pub(crate) fn short_in(widths: &[u8], short: &mut [u8]) -> Answer
-    requires { length short.old ≡ 7 }
-    ensures { FillsOwn (scanned widths.now) short.old result short.new }
+pub(crate) fn short_in(widths: &[u8]) -> Result<[u8; SHORT], Refusal>
+    ensures { result ≡ answered (scanned widths.now) }
 {
     let mut values = [0u8; PRINTED];
-    let characters = values_in(widths, &mut values);
-    let Answer::Done(_) = characters else {
-        return characters;
+    values_in(widths, &mut values)?;
+    let Some(check) = rows::digit_of(Rows::CheckDigit, &values) else {
+        return Err(Refusal::Pattern(12));
     };
-    let Match::Value(check) = rows::digit_of(Rows::CheckDigit, &values) else {
-        return Answer::Refused(Refusal::Pattern(12));
-    };
+    let mut short = [check; SHORT];
     letters::digits_of(&values, &mut short[..PRINTED]);
-    short[PRINTED] = check;
-    Answer::Done(SHORT)
+    Ok(short)
 }
 
 // The values of the six characters between the guards.
-fn values_in(widths: &[u8], values: &mut [u8]) -> Answer
-    requires { length values.old ≡ 6 }
+fn values_in(widths: &[u8], values: &mut [u8; PRINTED]) -> Result<usize, Refusal>
     ensures { FillsOwn (values_in widths.now) values.old result values.new }
 {
     if widths.len() != UpcE::WIDTHS {
-        return Answer::Refused(Refusal::Count);
+        return Err(Refusal::Count);
     }
     if !patterns::equal(&widths[..GUARD_WIDTHS], &tables::GUARD) {
-        return Answer::Refused(Refusal::Guard);
+        return Err(Refusal::Guard);
     }
     if !patterns::equal(&widths[END..], &END_GUARD) {
-        return Answer::Refused(Refusal::Guard);
+        return Err(Refusal::Guard);
     }
     scanning::half(Sets::AOrB, 0, &widths[GUARD_WIDTHS..], values)
 }

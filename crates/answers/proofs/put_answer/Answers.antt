@@ -4,11 +4,11 @@ use Rattle.text.proofs.PutsLaws.{puts_same}
 use Rattle.answers.specs.Lines.{answer_line}
 use Rattle.answers.proofs.put_answer.Goals as goal
 
-pub returns-in-Done : goal.returns-in-Done
-returns-in-Done c =
-    puts_same _ _ _ _ _ (ap answer_line c.in-Done.is) c.put_numbers.ensures
+pub returns-in-Ok : goal.returns-in-Ok
+returns-in-Ok c =
+    puts_same _ _ _ _ _ (ap answer_line c.in-Ok.is) c.put_numbers.ensures
 
-pub returns-in-Refused : goal.returns-in-Refused
-returns-in-Refused c =
-    let told = c.in-Refused.is in
-    puts_same _ _ _ _ _ (ap answer_line told) (rw (← c.number.ensures, ← c.place.ensures) c.put_numbers-in-Refused.ensures)
+pub returns-in-Err : goal.returns-in-Err
+returns-in-Err c =
+    let told = c.in-Err.is in
+    puts_same _ _ _ _ _ (ap answer_line told) (rw (← c.number.ensures, ← c.place.ensures) c.put_numbers-in-Err.ensures)

@@ -8,7 +8,7 @@ use Rattle.refusal.specs.Outcome.{made}
 use Rattle.asking.specs.Asking.{asked, part_of}
 use Rattle.elements.proofs.CountLaws.{found_string, found_refused}
 use Rattle.asking.proofs.AskLaws.{asked_stands, part_within}
-use Rattle.asking.proofs.ask.Goals.{In-String}
+use Rattle.asking.proofs.ask.Goals.{In-Ok}
 use Rattle.asking.proofs.ask.Goals as goal
 
 pub returns-in_default : goal.returns-in_default
@@ -17,30 +17,30 @@ returns-in_default c =
     let x = c.args.identifier in
     sym (ap (part_of message) (found_refused (asked message x) _ (sym c.in_default.is ∙ c.find.ensures)))
 
-is-asked : (c : In-String) → asked c.args.message.now c.args.identifier ≡ made c.in-String.element
+is-asked : (c : In-Ok) → asked c.args.message.now c.args.identifier ≡ made c.in-Ok.element
 is-asked c =
     let message = c.args.message.now in
     let x = c.args.identifier in
-    let string = c.in-String.element in
-    found_string (asked message x) string (sym c.in-String.is ∙ c.find.ensures)
+    let string = c.in-Ok.element in
+    found_string (asked message x) string (sym c.in-Ok.is ∙ c.find.ensures)
 
-inside : (c : In-String) → c.in-String.element.begin + c.in-String.element.length ≤ length c.args.message.now
+inside : (c : In-Ok) → c.in-Ok.element.begin + c.in-Ok.element.length ≤ length c.args.message.now
 inside c =
     let message = c.args.message.now in
     let x = c.args.identifier in
-    let string = c.in-String.element in
+    let string = c.in-Ok.element in
     part_within message string (asked_stands message x string (is-asked c))
 
 pub overflow_add-end : goal.overflow_add-end
 overflow_add-end c =
-    omega (arith, inside (goal.at.overflow_add-end c).In-String)
+    omega (arith, inside (goal.at.overflow_add-end c).In-Ok)
 
 pub slice_bounds-result-end-2 : goal.slice_bounds-result-end-2
 slice_bounds-result-end-2 c =
-    inside (goal.at.slice_bounds-result-end-2 c).In-String
+    inside (goal.at.slice_bounds-result-end-2 c).In-Ok
 
 pub returns : goal.returns
 returns c =
     let message = c.args.message.now in
-    let string = c.in-String.element in
-    ap (λ (n : ℕ). take n (drop string.begin message)) (add-sub_cancel_left string.begin string.length) ∙ sym (ap (part_of message) (is-asked (goal.at.returns c).In-String))
+    let string = c.in-Ok.element in
+    ap (λ (n : ℕ). take n (drop string.begin message)) (add-sub_cancel_left string.begin string.length) ∙ sym (ap (part_of message) (is-asked (goal.at.returns c).In-Ok))

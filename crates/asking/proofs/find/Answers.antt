@@ -2,60 +2,53 @@
 -- the identifier, or at one that has another.
 use mathlib.Core.Path.{◌≡◌, sym, ap, ◌∙◌}
 use mathlib.Core.List.{List}
-use lib.ListN.{length}
 use borrow.Author.Tests.{eq-eqb, ne_eqb}
+use Rattle.laws.proofs.Results.{passed_on}
+use Rattle.refusal.specs.Fills.{answered}
 use Rattle.refusal.specs.Outcome.{Outcome, made, ◌>>=◌}
 use Rattle.refusal.proofs.FillsLaws.{refused_of_answer, made_of_answer}
 use Rattle.elements.specs.declared.Element.{Element}
-use Rattle.elements.specs.Strings.{tested}
-use Rattle.elements.specs.Found.{found_of, sought}
+use Rattle.elements.specs.Strings.{parsed, tested}
+use Rattle.elements.specs.Found.{sought}
 use Rattle.elements.proofs.CountLaws.{found_string, found_refused}
 use Rattle.elements.proofs.FromRule.{tested_made}
 use Rattle.asking.specs.Asking.{asked}
-use Rattle.asking.proofs.AskLaws.{checked, named_sought, asked_refused, asked_named}
-use Rattle.asking.proofs.find.Goals.{After-sought-found}
+use Rattle.asking.proofs.AskLaws.{checked, asked_refused, asked_sought}
+use Rattle.asking.proofs.find.Goals.{After-sought}
 use Rattle.asking.proofs.find.Goals as goal
 
-pub returns-in-Refused : goal.returns-in-Refused
-returns-in-Refused c =
+pub returns-in_err-test : goal.returns-in_err-test
+returns-in_err-test c =
     let message = c.args.message.now in
-    let x = c.args.identifier in
-    let wrong = refused_of_answer (tested message) _ (sym c.in-Refused.is ∙ c.test-tested.ensures) in
-    sym (ap found_of (asked_refused message x _ wrong))
+    let wrong = refused_of_answer (tested message) _ c.in_err-test.ensures in
+    passed_on _ _ c.from_residual.ensures.1 ∙ sym (ap answered (asked_refused message c.args.identifier _ wrong))
 
-right : (c : After-sought-found) → (strings : List Element) × (tested c.args.message.now ≡ made strings) × (length strings ≡ c.in_default.field-0)
+right : (c : After-sought) → (strings : List Element) × (tested c.args.message.now ≡ made strings) × (parsed c.args.message.now ≡ made strings)
 right c =
     let message = c.args.message.now in
-    made_of_answer (tested message) _ (sym c.in_default.is ∙ c.test-tested.ensures)
+    let m = made_of_answer (tested message) _ c.in_ok-test.ensures in
+    (m.0, m.1, (tested_made message m.0 m.1).strings)
 
-found-is : (c : After-sought-found) → c.sought-found.result ≡ found_of (sought c.args.identifier (right c).0)
-found-is c =
-    let message = c.args.message.now in
-    c.sought-found.ensures (right c).0 (tested_made message (right c).0 (right c).1).strings
-
-comes-to : (c : After-sought-found) → (o : Outcome Element) → sought c.args.identifier (right c).0 ≡ o → found_of (asked c.args.message.now c.args.identifier) ≡ found_of (o >>= checked c.args.identifier)
+comes-to : (c : After-sought) → (o : Outcome Element) → sought c.args.identifier (right c).0 ≡ o → answered (asked c.args.message.now c.args.identifier) ≡ answered (o >>= checked c.args.identifier)
 comes-to c o is =
-    let message = c.args.message.now in
     let x = c.args.identifier in
-    ap found_of (asked_named message x (right c).0 (right c).1 ∙ named_sought x (right c).0 ∙ ap (λ (p : Outcome Element). p >>= checked x) is)
+    ap answered (asked_sought c.args.message.now x (right c).0 (right c).1 ∙ ap (λ (p : Outcome Element). p >>= checked x) is)
 
-pub returns-in_default-found : goal.returns-in_default-found
-returns-in_default-found c =
-    let there = (goal.at.returns-in_default-found c).After-sought-found in
-    let x = c.args.identifier in
-    let is = c.in_default-found.is in
-    is ∙ sym (comes-to there _ (found_refused (sought x (right there).0) _ (sym is ∙ found-is there)))
-
-is-sought : (c : After-sought-found) (element : Element) → c.sought-found.result ≡ found_of (made element) → sought c.args.identifier (right c).0 ≡ made element
-is-sought c element is =
-    found_string (sought c.args.identifier (right c).0) _ (sym is ∙ found-is c)
+pub returns-in_err-element : goal.returns-in_err-element
+returns-in_err-element c =
+    let there = (goal.at.returns-in_err-element c).After-sought in
+    let strings = right there in
+    passed_on _ _ c.from_residual-in_err-element.ensures.1
+    ∙ sym (comes-to there _ (found_refused _ _ (c.in_err-element.ensures strings.0 strings.2)))
 
 pub returns-then-element-identifier : goal.returns-then-element-identifier
 returns-then-element-identifier c =
-    let there = (goal.at.returns-then-element-identifier c).After-sought-found in
-    sym (comes-to there _ (is-sought there _ c.in-String.is) ∙ rw (eq-eqb _ _ c.if-element-identifier.true))
+    let there = (goal.at.returns-then-element-identifier c).After-sought in
+    let strings = right there in
+    sym (comes-to there _ (found_string _ _ (c.in_ok-element.ensures strings.0 strings.2)) ∙ rw (ne_eqb _ _ c.if-element-identifier.true))
 
 pub returns : goal.returns
 returns c =
-    let there = (goal.at.returns c).After-sought-found in
-    sym (comes-to there _ (is-sought there _ c.in-String.is) ∙ rw (ne_eqb _ _ c.if-element-identifier.false))
+    let there = (goal.at.returns c).After-sought in
+    let strings = right there in
+    sym (comes-to there _ (found_string _ _ (c.in_ok-element.ensures strings.0 strings.2)) ∙ rw (eq-eqb _ _ c.if-element-identifier.false))

@@ -1,67 +1,35 @@
 -- `digits::lay_values` meets its promise: after i turns the working list begins with the bytes of the first i digits; of digits, reading
 -- makes what writing their number as its bytes does.
-use Prim.Native.Nat.{ℕ}
-use mathlib.Core.Path.{◌≡◌, refl, sym, ap, ap₂, ◌∙◌}
-use mathlib.Core.List.{List, map}
-use native.Mathlib.Omega.{arith}
-use lib.ListN.{length, take, length-map, length-take, length-set}
-use lib.Seq.{take_at, take_all}
-use Rattle.laws.proofs.Copying.{mapped_more}
-use Rattle.refusal.specs.Fills.{answer_of}
+use Rattle.std.proofs.Common.{◌≡◌, map, length, length-take, Ok, Err, refl, sym, ap, ◌∙◌, arith}
+use Rattle.laws.proofs.Copying.{mapped_whole}
+use Rattle.laws.proofs.Results.{passed_on}
 use Rattle.refusal.proofs.FillsLaws.{fills_same}
-use Rattle.digits.specs.Check.{right_number}
 use Rattle.digits.specs.Numbered.{byte_of}
 use Rattle.digits.proofs.NumberedLaws.{values_of_bytes, read_as_written, written_refused, written_laid}
-use Rattle.digits.proofs.lay_values.Goals.{After-right_number-tested}
+use Rattle.digits.proofs.lay_values.Goals.{After-right_number}
 use Rattle.digits.proofs.lay_values.Goals as goal
 
-pub overflow_add-number : goal.overflow_add-number
-overflow_add-number c =
-    omega (arith, c.requires.below c.loop-i.i (omega arith))
+-- what is tested is the number of the digits
+bytes : (c : After-right_number) → c.loop-i.number ≡ map byte_of c.args.values.now
+bytes c = c.loop-i.invariant ∙ mapped_whole byte_of c.args.values.now _ c.loop-i.i (omega arith) (simp length-take (omega arith))
 
-pub loop-i-preserved : goal.loop-i-preserved
-loop-i-preserved c =
-    let values = c.args.values.now in
-    (omega arith, simp length-set (omega arith), rw c.loop-i.invariant.2 (mapped_more byte_of values _ c.loop-i.i 0 (omega arith) (omega arith)))
-
-bytes : (c : After-right_number-tested) → take c.loop-i.i c.loop-i.number ≡ map byte_of c.args.values.now
-bytes c =
-    let digits = c.args.values.now in
-    let i = c.loop-i.i in
-    let long = length-map digits byte_of in
-    ap (take i) c.loop-i.invariant.2 ∙ take_at (take i (map byte_of digits)) _ i (rw length-take (omega arith)) ∙ take_all i (map byte_of digits) (omega arith)
-
-tested : (c : After-right_number-tested) → c.right_number-tested.result ≡ answer_of (right_number (length c.args.values.now) (map byte_of c.args.values.now))
-tested c =
-    let digits = c.args.values.now in
-    let whole : c.loop-i.i ≡ length digits = omega arith in
-    c.right_number-tested.ensures ∙ ap₂ (λ (n : ℕ) (number : List ℕ). answer_of (right_number n number)) whole (bytes c)
-
-pub returns-in_default : goal.returns-in_default
-returns-in_default c =
+pub returns-in_err-right_number : goal.returns-in_err-right_number
+returns-in_err-right_number c =
+    let there = (goal.at.returns-in_err-right_number c).After-right_number in
     let digits = c.args.values.now in
     let room = length c.args.lent.now in
-    fills_same _ _ _ _ _ (read_as_written digits room c.requires.below)
-    (written_refused (length digits) (map byte_of) (map byte_of digits) room _ (tested (goal.at.returns-in_default c).After-right_number-tested) c.in_default.field-0 _ c.in_default.is)
+    let f = c.in_err-right_number.field-0.0 in
+    rw (passed_on _ f c.from_residual.ensures.1)
+    (fills_same _ _ _ _ _ (read_as_written digits room c.requires.below)
+    (written_refused (length digits) (map byte_of) (map byte_of digits) room (Err f) (rw (← bytes there) c.in_err-right_number.ensures) f _ refl))
 
 pub returns : goal.returns
 returns c =
-    let there = (goal.at.returns c).After-right_number-tested in
+    let there = (goal.at.returns c).After-right_number in
     let digits = c.args.values.now in
     let room = length c.args.lent.now in
+    let n = c.in_ok-right_number.field-0 in
     fills_same _ _ _ _ _ (read_as_written digits room c.requires.below)
-    (written_laid (length digits) (map byte_of) (map byte_of digits) room _ (tested there) c.in-Done.field-0 _ _ _ _ c.in-Done.is
+    (written_laid (length digits) (map byte_of) (map byte_of digits) room (Ok n) (rw (← bytes there) c.in_ok-right_number.ensures) n _ _ _ _ refl
     (bytes there ∙ ap (map byte_of) (sym (values_of_bytes digits)))
     c.lay.ensures)
-
-pub loop-i-init : goal.loop-i-init
-loop-i-init c =
-    (omega arith, refl, refl)
-
-pub slice_bounds-right_number-end : goal.slice_bounds-right_number-end
-slice_bounds-right_number-end c =
-    simp length-take (omega arith)
-
-pub slice_bounds-lay-end : goal.slice_bounds-lay-end
-slice_bounds-lay-end c =
-    simp length-take (omega arith)

@@ -1,17 +1,17 @@
 -- `digits::right_number` meets its contract: the tests that led to each `return` are those of the rule's lines; the number before its
 -- last digit is digits too, so its weighed sum can be taken.
+use Rattle.std.specs.Prelude.{Ok, Err}
 use Prim.Native.Nat.{ℕ, ◌+◌, ◌-◌, ◌%◌}
 use mathlib.Core.Path.{◌≡◌, sym, ap, ap₂, ◌∙◌}
 use mathlib.Core.List.{List, map}
 use native.Mathlib.Omega.{arith}
-use lib.ListN.{length, get_or, take, length-take, length-map, get_or-map}
+use lib.ListN.{length, get_or, take, length-map, get_or-map}
 use lib.Dec.{eqb}
 use borrow.Author.Tests.{eq-eqb, ne_eqb}
 use Rattle.laws.specs.First.{first_not}
 use Rattle.laws.specs.Weighed.{weighed}
 use Rattle.laws.proofs.FirstLaws.{pass_take}
 use Rattle.laws.proofs.Mapped.{take_map}
-use Rattle.refusal.specs.declared.Answer.TheVariants.{Done, Refused}
 use Rattle.refusal.specs.declared.Refusal.TheVariants.{Character}
 use Rattle.digits.specs.Digit.{is_digit, value_of}
 use Rattle.digits.specs.Check.{weight_at, is_right, right_number}
@@ -34,18 +34,16 @@ unfolding right_number
 returns-then-place-count c =
     let number = c.args.number.now in
     let place : c.first_other-place.result ≡ first_not is_digit number = c.first_other-place.ensures in
-    simp (eq-eqb _ _ c.if-number-count.false, digits_refused number (omega arith)) (ap (λ (p : ℕ). Refused (Character p)) place)
+    simp (eq-eqb _ _ c.if-number-count.false, digits_refused number (omega arith)) (ap (λ (p : ℕ). Err (Character p)) place)
 
 all : (c : Else-place-count) → first_not is_digit c.args.number.now ≡ length c.args.number.now
 all c =
     let number = c.args.number.now in
     all_digits number (omega (arith, c.first_other-place.ensures))
 
-pub weighed_sum-requires : goal.weighed_sum-requires
-weighed_sum-requires c =
-    let n = c.args.count in
-    let number = c.args.number.now in
-    record { digits_len_bound = simp length-take (omega arith); digits_value = pass_take is_digit (n - 1) number 0 (all c) }
+pub weighed_sum-requires-clause-digits_value : goal.weighed_sum-requires-clause-digits_value
+weighed_sum-requires-clause-digits_value c =
+    pass_take is_digit (c.args.count - 1) c.args.number.now 0 (all c)
 
 pub value_of-requires : goal.value_of-requires
 value_of-requires c =
@@ -60,11 +58,6 @@ tested c =
     right-sum number n c.if-number-count.false
     ∙ sym (ap₂ (λ (sum last : ℕ). eqb ((sum + last) % 10) 0) c.weighed_sum.ensures.value c.value_of.ensures)
 
-pub overflow_add-sum : goal.overflow_add-sum
-overflow_add-sum c =
-    let n = c.args.count in
-    omega (arith, c.weighed_sum.ensures.upper_bound, c.value_of.ensures, c.type_inv.number (n - 1))
-
 pub returns-then-sum-eq0 : goal.returns-then-sum-eq0
 unfolding right_number
 returns-then-sum-eq0 c =
@@ -72,7 +65,7 @@ returns-then-sum-eq0 c =
     let there = (goal.at.returns-then-sum-eq0 c).After-value_of in
     let number = c.args.number.now in
     let same = c.if-number-count.false in
-    simp (eq-eqb _ _ same, digits_made number (all before), tested there, eq-eqb _ 0 c.if-sum-eq0.true) (ap Done (sym same ∙ sym (length-map number value_of)))
+    simp (eq-eqb _ _ same, digits_made number (all before), tested there, eq-eqb _ 0 c.if-sum-eq0.true) (ap Ok (sym same ∙ sym (length-map number value_of)))
 
 pub returns-else-sum-eq0 : goal.returns-else-sum-eq0
 unfolding right_number
@@ -80,7 +73,3 @@ returns-else-sum-eq0 c =
     let before = (goal.at.returns-else-sum-eq0 c).Else-place-count in
     let there = (goal.at.returns-else-sum-eq0 c).After-value_of in
     simp (eq-eqb _ _ c.if-number-count.false, digits_made c.args.number.now (all before), tested there, ne_eqb _ 0 c.if-sum-eq0.false)
-
-pub slice_bounds-weighed_sum-end : goal.slice_bounds-weighed_sum-end
-slice_bounds-weighed_sum-end c =
-    simp length-take (omega arith)

@@ -18,25 +18,25 @@ pub returns-in-0 : goal.returns-in-0
 unfolding place_in_table table measures place_in first_not
 returns-in-0 c =
     let x = c.args.identifier in
-    row_at_place x 0 (exactly 18 DigitsWithCheck) (row_of_keys (0 ∷ []) 0 refl x c.in-0.is) refl c.exactly.result c.exactly.ensures
+    row_at_place x 0 (exactly 18 DigitsWithCheck) (row_of_keys (0 ∷ []) 0 refl x c.in-0.is) refl c.exactly-kind.result c.exactly-kind.ensures
 
 pub returns-in-20 : goal.returns-in-20
 unfolding place_in_table table measures place_in first_not
 returns-in-20 c =
     let x = c.args.identifier in
-    row_at_place x 4 (exactly 2 Digits) (row_of_keys (20 ∷ []) 4 refl x c.in-20.is) refl c.exactly-in-20.result c.exactly-in-20.ensures
+    row_at_place x 4 (exactly 2 Digits) (row_of_keys (20 ∷ []) 4 refl x c.in-20.is) refl c.exactly-kind-in-20.result c.exactly-kind-in-20.ensures
 
 pub returns-in-30 : goal.returns-in-30
 unfolding place_in_table table measures place_in first_not
 returns-in-30 c =
     let x = c.args.identifier in
-    row_at_place x 6 (up_to 8 Digits) (row_of_keys (30 ∷ 37 ∷ []) 6 refl x c.in-30.is) refl c.up_to.result c.up_to.ensures
+    row_at_place x 6 (up_to 8 Digits) (row_of_keys (30 ∷ 37 ∷ []) 6 refl x c.in-30.is) refl c.up_to-kind.result c.up_to-kind.ensures
 
 pub returns-in-10 : goal.returns-in-10
 unfolding place_in_table table measures place_in first_not
 returns-in-10 c =
     let x = c.args.identifier in
-    row_at_place x 7 (up_to 20 Text) (row_of_keys (10 ∷ 21 ∷ []) 7 refl x c.in-10.is) refl c.up_to-in-10.result c.up_to-in-10.ensures
+    row_at_place x 7 (up_to 20 Text) (row_of_keys (10 ∷ 21 ∷ []) 7 refl x c.in-10.is) refl c.up_to-kind-in-10.result c.up_to-kind-in-10.ensures
 
 pub returns-in-1 : goal.returns-in-1
 unfolding place_in_table table measures place_in first_not
@@ -45,7 +45,7 @@ returns-in-1 c =
     let other : x ≡ 0 → ⊥ = c.in-1.in_default-own.rest.0.0.0.0.1 in
     row_at_place x 1 (exactly 14 DigitsWithCheck)
     (in_run (in_row 1) 1 2 true tt x (omega arith) (omega arith))
-    refl c.exactly-in-1.result c.exactly-in-1.ensures
+    refl c.exactly-kind-in-1.result c.exactly-kind-in-1.ensures
 
 pub returns-in-410 : goal.returns-in-410
 unfolding place_in_table table measures place_in first_not
@@ -53,7 +53,7 @@ returns-in-410 c =
     let identifier = c.args.identifier in
     row_at_place identifier 2 (exactly 13 DigitsWithCheck)
     (in_run (in_row 2) 410 6 true tt identifier (omega arith) (omega arith))
-    refl c.exactly-in-410.result c.exactly-in-410.ensures
+    refl c.exactly-kind-in-410.result c.exactly-kind-in-410.ensures
 
 pub returns-in-11 : goal.returns-in-11
 unfolding place_in_table table measures place_in first_not
@@ -65,20 +65,20 @@ returns-in-11 c =
       | then-identifier-lt14 w ↦ in_run (in_row 3) 11 3 true tt x (omega arith) (omega arith)
       | else-identifier-lt14+else-identifier-lt15 w ↦ in_run (in_row 3) 15 3 true tt x (omega arith) (omega arith)
     ])
-    refl c.exactly-in-11.result c.exactly-in-11.ensures
+    refl c.exactly-kind-in-11.result c.exactly-kind-in-11.ensures
 
-pub returns-then-is_measure : goal.returns-then-is_measure
+pub returns-in_default : goal.returns-in_default
 unfolding place_in_table table measures place_in first_not
-returns-then-is_measure c =
+returns-in_default c =
     let identifier = c.args.identifier in
     let measure : among measures identifier ≡ true = sym c.is_measure.ensures ∙ c.if-is_measure.true in
     row_at_place identifier 5 (exactly 6 Digits)
     (all_among (in_row 5) measures refl identifier measure)
-    refl c.exactly-then-is_measure.result c.exactly-then-is_measure.ensures
+    refl c.exactly-kind-in_default.result c.exactly-kind-in_default.ensures
 
-pub returns-else-is_measure : goal.returns-else-is_measure
+pub returns-in_default-2 : goal.returns-in_default-2
 unfolding listed identifiers_of table measures place_in first_not
-returns-else-is_measure c =
+returns-in_default-2 c =
     let x = c.args.identifier in
     let rest = c.in_default-1.rest in
     let measure : among measures x ≡ false = sym c.is_measure.ensures ∙ c.if-is_measure.false in
@@ -100,4 +100,4 @@ returns-in-240 c =
       | in-90-1 w ↦ row_of_keys (90 ∷ 250 ∷ 400 ∷ []) 8 refl x w.in-90-1.keys5
       | in_default+else-identifier-lt18+else-identifier-lt240+then-identifier-lt242 w ↦ in_run (in_row 8) 240 2 true tt x (omega arith) (omega arith)
     ])
-    refl c.up_to-in-240.result c.up_to-in-240.ensures
+    refl c.up_to-kind-in-240.result c.up_to-kind-in-240.ensures

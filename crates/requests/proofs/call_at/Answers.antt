@@ -18,10 +18,10 @@ returns-in_default c =
 pub returns-then-end-line : goal.returns-then-end-line
 returns-then-end-line c =
     let line = c.args.line.now in
-    record { value = call_alone line _ _ c.word_end-end.ensures.value _ c.equal.ensures c.if-equal.false (sym c.in-As.is ∙ c.find.ensures) c.if-end-line.true; within = tt }
+    record { value = call_alone line _ _ c.word_end-end.ensures.value _ c.equal.ensures c.if-equal.false (sym c.in-Some.is ∙ c.find.ensures) c.if-end-line.true; within = tt }
 
 pub returns : goal.returns
 returns c =
     let line = c.args.line.now in
-    let names = sym c.in-As.is ∙ c.find.ensures in
-    record { value = rw c.places_of.ensures (call_made line _ _ c.word_end-end.ensures.value _ c.equal.ensures c.if-equal.false names c.if-end-line.false); within = (rw c.places_of.ensures (places_within c.args.room _ c.requires.room_bound (usual_fits _ names)), omega arith) }
+    let names = sym c.in-Some.is ∙ c.find.ensures in
+    record { value = rw c.unwrap_or.ensures (call_made line _ _ c.word_end-end.ensures.value _ c.equal.ensures c.if-equal.false names c.if-end-line.false); within = (rw c.unwrap_or.ensures (places_within c.args.room _ c.requires.room_bound (usual_fits _ _ names)), omega arith) }

@@ -12,9 +12,9 @@ returns-in_default c =
 pub returns-then-end-typed : goal.returns-then-end-typed
 returns-then-end-typed c =
     let typed = c.args.typed.now in
-    record { value = leads_alone typed _ c.word_end-end.ensures.value _ (sym c.in-Is.is ∙ c.capped_in.ensures) c.if-end-typed.true; leads_within = tt }
+    record { value = leads_alone typed _ c.word_end-end.ensures.value _ (sym c.in-Some.is ∙ c.capped_in.ensures) c.if-end-typed.true; leads_within = tt }
 
 pub returns : goal.returns
 returns c =
     let typed = c.args.typed.now in
-    record { value = leads_on typed _ c.word_end-end.ensures.value _ (sym c.in-Is.is ∙ c.capped_in.ensures) c.if-end-typed.false; leads_within = omega arith }
+    record { value = leads_on typed _ c.word_end-end.ensures.value _ (sym c.in-Some.is ∙ c.capped_in.ensures) c.if-end-typed.false; leads_within = omega arith }

@@ -13,16 +13,16 @@ returns-in_default c =
 pub returns-then-end-line : goal.returns-then-end-line
 returns-then-end-line c =
     let line = c.args.line.now in
-    record { value = room_alone line _ _ c.word_end-end.ensures.value (sym c.in-Is.is ∙ c.number_in.ensures) c.if-end-line.true; within = tt }
+    record { value = room_alone line _ _ c.word_end-end.ensures.value (sym c.in-Some.is ∙ c.number_in.ensures) c.if-end-line.true; within = tt }
 
 pub call_at-requires : goal.call_at-requires
 call_at-requires c =
-    record { from_in_bounds = omega arith; room_bound = number_within _ 700 _ (sym c.in-Is.is ∙ c.number_in.ensures) }
+    record { from_in_bounds = omega arith; room_bound = number_within _ 700 _ (sym c.in-Some.is ∙ c.number_in.ensures) }
 
 pub returns : goal.returns
 returns c =
     let line = c.args.line.now in
-    let made = room_made line _ _ c.word_end-end.ensures.value (sym c.in-Is.is ∙ c.number_in.ensures) c.if-end-line.false in
+    let made = room_made line _ _ c.word_end-end.ensures.value (sym c.in-Some.is ∙ c.number_in.ensures) c.if-end-line.false in
     record { value = c.call_at.ensures.value ∙ made; within = c.call_at.ensures.within }
 
 pub word_end-end-requires : goal.word_end-end-requires

@@ -1,55 +1,68 @@
--- `splitting::split` meets its contract: after k turns the lent list is `stored message list k` and the place is `place_after message k`;
--- after the planned turns that is what the rule promises.
-use Rattle.std.proofs.Common.{◌≡◌, refl, ℕ, ◌+◌, ◌<◌, ◌≤◌, List, length, slice_set, add-one, arith}
-use Rattle.refusal.specs.Fills.{Fills}
-use Rattle.elements.specs.Strings.{string_at}
+-- `splitting::split` meets its contract: after i turns the records of i strings are stored, and a message that passed the test has its next
+-- string where the turn looks for it; so when the count is reached the records of all stand there.
+use Rattle.std.proofs.Common.{ℕ, ◌≡◌, ◌++◌, List, Ok, length, map, drop, sym, ap, ap₂, ◌∙◌, ◌<◌, arith}
+use lib.ListN.{length-map}
+use lib.Seq.{length-take-le}
+use Rattle.laws.proofs.Results.{passed_on}
+use Rattle.refusal.specs.Outcome.{made}
+use Rattle.refusal.specs.declared.Refusal.TheVariants.{Room}
+use Rattle.refusal.proofs.OutcomeLaws.{made_same}
+use Rattle.refusal.proofs.FillsLaws.{refused_of_answer, made_of_answer, fills_refused, fills_passed}
+use Rattle.elements.specs.declared.Element.{Element}
+use Rattle.elements.specs.Strings.{string_at, tested}
+use Rattle.elements.proofs.CountLaws.{found_string, found_refused}
 use Rattle.splitting.specs.declared.Record.{Record}
-use Rattle.splitting.specs.declared.records.Located.{Located}
-use Rattle.splitting.specs.declared.records.Plan.{Plan}
-use Rattle.splitting.specs.Splitting.{splits}
-use Rattle.splitting.specs.Records.{plan_of, located_of}
-use Rattle.splitting.proofs.SplitLaws.{place_after, stored, stored_more, plan_within, plan_fills}
+use Rattle.splitting.specs.Splitting.{record_of}
+use Rattle.splitting.proofs.SplitLaws.{turn_first, turn_found, turn_next, turn_last, splits_refused, splits_short, splits_enough}
+use Rattle.splitting.proofs.split.Goals.{In_ok-count}
 use Rattle.splitting.proofs.split.Goals as goal
 
--- the planned turns stay within the list
-planned_within : (message : List ℕ) (room : ℕ) (plan : Plan) → plan ≡ plan_of (splits message room) → plan.count ≤ room
-planned_within message room plan is = rw is (plan_within message room)
-
--- a turn goes on: the record found is stored
-turn_stores : (message : List ℕ) (list records : List Record) (k at : ℕ) (found : Located) → records ≡ stored message list k → at ≡ place_after message k → found ≡ located_of (string_at message at) → k < length list → slice_set records k found.string ≡ stored message list (k + 1)
-turn_stores message list records k at found now here is within = rw (add-one, now, is, here) (stored_more message list k within)
-
--- and the place goes on
-turn_moves : (message : List ℕ) (k at : ℕ) (found : Located) → at ≡ place_after message k → found ≡ located_of (string_at message at) → found.next ≡ place_after message (k + 1)
-turn_moves message k at found here is = rw (add-one, is, here)
-
--- the planned turns are over
-all_stored : (message : List ℕ) (list records : List Record) (k : ℕ) (plan : Plan) → plan ≡ plan_of (splits message (length list)) → records ≡ stored message list k → k ≡ plan.count → Fills (splits message (length list)) list plan.answer records
-all_stored message list records k plan is now over = rw (now, over, is) (plan_fills message list)
-
-pub loop-i-init : goal.loop-i-init
-loop-i-init c = record { within = omega arith; list = refl; place = refl }
-
-pub offset_bounds-records-i : goal.offset_bounds-records-i
-offset_bounds-records-i c =
-    omega (arith, planned_within c.args.message.now (length c.args.records.now) _ c.planned-plan.ensures)
-
-pub bounds-records-i : goal.bounds-records-i
-bounds-records-i c =
-    omega (arith, planned_within c.args.message.now (length c.args.records.now) _ c.planned-plan.ensures)
-
-pub loop-i-preserved : goal.loop-i-preserved
-loop-i-preserved c =
+pub returns-in_err-count : goal.returns-in_err-count
+returns-in_err-count c =
     let message = c.args.message.now in
-    let list = c.args.records.now in
-    let i = c.loop-i.invariant in
-    let within : c.loop-i.i < length list = omega (arith, planned_within message (length list) _ c.planned-plan.ensures) in
-    record {
-      within = omega arith;
-      list = turn_stores message list _ _ _ _ i.list i.place c.locate-found.ensures within;
-      place = turn_moves message _ _ _ i.place c.locate-found.ensures;
-    }
+    let f = c.in_err-count.field-0.0 in
+    fills_passed _ f c.args.records.now _ (passed_on _ f c.from_residual.ensures.1) (splits_refused message _ f (refused_of_answer (tested message) f c.in_err-count.ensures))
+
+right : (c : In_ok-count) → (strings : List Element) × (tested c.args.message.now ≡ made strings) × (length strings ≡ c.in_ok-count.count)
+right c =
+    made_of_answer (tested c.args.message.now) c.in_ok-count.count c.in_ok-count.ensures
+
+pub returns-then-records-count : goal.returns-then-records-count
+returns-then-records-count c =
+    let a = right (goal.at.returns-then-records-count c).In_ok-count in
+    fills_refused _ Room _ (splits_short c.args.message.now _ a.0 a.1 (omega (arith, a.2)))
+
+pub loop-record-init : goal.loop-record-init
+loop-record-init c =
+    λ strings e. turn_first c.args.message.now _ strings e
+
+pub returns-in_err-element : goal.returns-in_err-element
+returns-in_err-element c =
+    let message = c.args.message.now in
+    let a = right (goal.at.returns-in_err-element c).In_ok-count in
+    let lent = length-take-le c.in_ok-count.count c.args.records.now c.if-records-count.false in
+    let none = found_refused (string_at message c.loop-record.at) _ c.in_err-element.ensures in
+    absurd (turn_found message _ a.0 _ _ _ (c.loop-record.invariant a.0 a.1) (omega (arith, a.2, c.loop-record-test.true)) _ none)
+
+pub loop-record-preserved : goal.loop-record-preserved
+loop-record-preserved c =
+    let message = c.args.message.now in
+    let a = right (goal.at.loop-record-preserved c).In_ok-count in
+    let lent = length-take-le c.in_ok-count.count c.args.records.now c.if-records-count.false in
+    let string = c.in_ok-element.element in
+    let here = found_string (string_at message c.loop-record.at) string c.in_ok-element.ensures in
+    λ strings e.
+    let more : c.loop-record.record-index < length strings = omega (arith, ap length (made_same a.0 strings (sym a.1 ∙ e)), a.2, c.loop-record-test.true) in
+    rw c.of.ensures (turn_next message _ strings _ _ _ (c.loop-record.invariant strings e) more string here (omega (arith, c.loop-record-test.true)))
 
 pub returns : goal.returns
 returns c =
-    all_stored c.args.message.now c.args.records.now _ c.loop-i.i c.planned-plan.result c.planned-plan.ensures c.loop-i.invariant.list (omega arith)
+    let message = c.args.message.now in
+    let records = c.args.records.now in
+    let count = c.in_ok-count.count in
+    let a = right (goal.at.returns c).In_ok-count in
+    let lent = length-take-le count records c.if-records-count.false in
+    let all = turn_last message _ a.0 _ _ _ (c.loop-record.invariant a.0 a.1) (omega (arith, a.2, c.loop-record-test.false)) (omega (arith, c.loop-record-test.false)) in
+    let long : length (map record_of a.0) ≡ count = length-map a.0 record_of ∙ a.2 in
+    rw (splits_enough message (length records) a.0 a.1 (omega (arith, a.2)))
+    (record { answer = ap Ok (sym long); lent = ap₂ (λ (front : List Record) (n : ℕ). front ++ drop n records) all (sym long) })

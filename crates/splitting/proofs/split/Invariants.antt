@@ -1,14 +1,11 @@
-use Rattle.std.proofs.Common.{◌≡◌, ◌-◌, ◌≤◌}
-use Rattle.splitting.proofs.SplitLaws.{place_after, stored}
+-- After i turns the records of i strings are stored, and the walk goes on along the others.
+use Rattle.std.proofs.Common.{◌≡◌, List}
+use Rattle.refusal.specs.Outcome.{made}
+use Rattle.elements.specs.declared.Element.{Element}
+use Rattle.elements.specs.Strings.{tested}
+use Rattle.splitting.proofs.SplitLaws.{Turn}
 use Rattle.splitting.proofs.split.Given as goal
 
--- After `i` turns `i` records are stored, and `at` is where the next string is looked for.
-abbrev pub invariant-loop-i : goal.invariant-loop-i
-invariant-loop-i l = record {
-  within : l.i ≤ l.plan.count;
-  list : l.records ≡ stored l.message l.initial.records l.i;
-  place : l.at ≡ place_after l.message l.i;
-}
-
-abbrev pub decreases-loop-i : goal.decreases-loop-i
-decreases-loop-i l = l.plan.count - l.i
+abbrev pub invariant-loop-record : goal.invariant-loop-record
+invariant-loop-record l =
+    (strings : List Element) → tested l.message ≡ made strings → Turn l.message l.initial.record-items strings l.record-index l.at l.record-items

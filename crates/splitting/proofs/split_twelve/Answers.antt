@@ -4,7 +4,7 @@ use Rattle.splitting.proofs.split_twelve.Goals as goal
 
 pub returns : goal.returns
 returns c =
-    let e = c.at_most_twelve-end.ensures in
+    let e = c.min.ensures in
     let h = rw e at c.split-answer.ensures in
     let kept = rw e at c.split-answer.auto.records in
     rw e (twelve_filled c.args.message.now c.args.room _ _ h kept)

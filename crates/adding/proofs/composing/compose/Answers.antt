@@ -1,11 +1,11 @@
 -- `adding::composing::compose` meets its contract: each part is put where the one before it ends, and the rest of the buffer stays.
+use Rattle.std.specs.Prelude.{Ok}
 use Prim.Native.Nat.{ℕ, ◌+◌}
 use mathlib.Core.Path.{◌≡◌, ap, ap₂, ◌∙◌}
 use mathlib.Core.List.{List, [], ◌∷◌, ◌++◌}
 use native.Mathlib.Omega.{arith}
 use lib.ListN.{length, take, drop, length-append}
 use lib.Seq.{length-take-le}
-use Rattle.refusal.specs.declared.Answer.TheVariants.{Done}
 use Rattle.refusal.proofs.FillsLaws.{laying_made}
 use Rattle.character_set_82.specs.Characters.{separator}
 use Rattle.identifiers.specs.Identifiers.{spelled}
@@ -36,4 +36,4 @@ returns c =
     let end : c.put.result ≡ length message = c.put.ensures.value ∙ omega (arith, done-long, ap length whole, length-append done content) in
     let stays = c.put.ensures.to_after ∙ put_next buffer done content _ c.put-at-2.result c.put.result held done-long c.put.ensures.value in
     rw (laying_made message (length buffer) (omega (arith, message-long, c.if-buffer-end.false)))
-    (record { answer = ap Done end; lent = stays ∙ ap₂ (λ (bytes : List ℕ) (n : ℕ). bytes ++ drop n buffer) whole end })
+    (record { answer = ap Ok end; lent = stays ∙ ap₂ (λ (bytes : List ℕ) (n : ℕ). bytes ++ drop n buffer) whole end })

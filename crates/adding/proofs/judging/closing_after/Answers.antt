@@ -12,9 +12,9 @@ returns-in_default c =
 pub returns-then-kind : goal.returns-then-kind
 unfolding closing
 returns-then-kind c =
-    rw ((kind_of_row _ _ _ (sym c.row_of.ensures ∙ c.in-Listed.is)).1, c.if-kind.true)
+    rw ((kind_of_row _ _ _ (sym c.row_of.ensures ∙ c.in-Some.is)).1, c.if-kind.true)
 
 pub returns-else-kind : goal.returns-else-kind
 unfolding closing
 returns-else-kind c =
-    rw ((kind_of_row _ _ _ (sym c.row_of.ensures ∙ c.in-Listed.is)).1, c.if-kind.false)
+    rw ((kind_of_row _ _ _ (sym c.row_of.ensures ∙ c.in-Some.is)).1, c.if-kind.false)

@@ -24,6 +24,6 @@ put_counted-requires c =
 pub returns : goal.returns
 returns c =
     let message = c.args.message.now in
-    let found = data_found message (asked _ _) _ (sym c.in-Done.is ∙ c.asked-answer.ensures) in
+    let found = data_found message (asked _ _) _ (sym c.in-Ok.is ∙ c.asked-answer.ensures) in
     let part = ap (counted_line AsBytes (32 ∷ [])) (sym c.ask.ensures) in
     puts_same _ _ _ _ _ (ap (list_line AsBytes) found ∙ part) c.put_counted.ensures

@@ -13,17 +13,17 @@ use Rattle.calls.specs.Answers.{named_line}
 use Rattle.calls.proofs.NamedLaws.{named_line_lem}
 use Rattle.calls.proofs.symbol_lines.read_any.Goals as goal
 
-pub returns-in-As : goal.returns-in-As
-returns-in-As c =
+pub returns-in-Ok : goal.returns-in-Ok
+returns-in-Ok c =
     let widths = c.args.widths.now in
     let room = length c.args.content.now in
-    let named = made_of_named _ c.in-As.kind (sym c.in-As.is ∙ c.kind_of.ensures) in
-    let between = ap (λ (between : List ℕ). line_of AsBytes between (reads_as c.in-As.kind widths room)) (sym c.name_of-name.ensures.names) in
-    puts_same _ _ _ _ _ (named_line_lem widths room c.in-As.kind named ∙ between) c.read_as.ensures
+    let named = made_of_named _ c.in-Ok.kind (sym c.in-Ok.is ∙ c.kind_of.ensures) in
+    let between = ap (λ (between : List ℕ). line_of AsBytes between (reads_as c.in-Ok.kind widths room)) (sym c.name_of.ensures) in
+    puts_same _ _ _ _ _ (named_line_lem widths room c.in-Ok.kind named ∙ between) c.read_as.ensures
 
-pub returns-in-Refused : goal.returns-in-Refused
-returns-in-Refused c =
+pub returns-in-Err : goal.returns-in-Err
+returns-in-Err c =
     let widths = c.args.widths.now in
     let room = length c.args.content.now in
-    let unnamed = refused_of_named _ c.in-Refused.refusal (sym c.in-Refused.is ∙ c.kind_of.ensures) in
-    puts_same _ _ _ _ _ (ap named_line (refused_if_unnamed widths room c.in-Refused.refusal unnamed)) c.put_answer.ensures
+    let unnamed = refused_of_named _ c.in-Err.refusal (sym c.in-Err.is ∙ c.kind_of.ensures) in
+    puts_same _ _ _ _ _ (ap named_line (refused_if_unnamed widths room c.in-Err.refusal unnamed)) c.put_answer.ensures

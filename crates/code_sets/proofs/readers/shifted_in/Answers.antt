@@ -17,7 +17,7 @@ pub returns-then-value-ge-BYTES : goal.returns-then-value-ge-BYTES
 returns-then-value-ge-BYTES c =
     let args = c.args in
     record {
-      reached = sticks (shifted_from args.set) args.values.now args.i (omega arith) args.text.now c.requires.1 args.n c.requires.2
+      reached = sticks (shifted_from args.set) args.values.now args.i (omega arith) args.text.now c.told-text args.n c.requires.1
           (shifted_high args.set _ c.if-value-ge-BYTES.true);
     }
 
@@ -26,5 +26,5 @@ returns c =
     let args = c.args in
     let value = get_or args.values.now args.i 0 in
     let is : c.byte_in.result ≡ byte_in (other args.set) value = c.byte_in.ensures ∙ ap (λ (s : Set). byte_in s value) c.other_of.ensures in
-    turns (shifted_from args.set) args.values.now args.i (omega (arith, c.if-values-i.false)) args.text.now c.requires.1 args.n c.requires.2
+    turns (shifted_from args.set) args.values.now args.i (omega (arith, c.if-values-i.false)) args.text.now c.told-text args.n c.requires.1
     args.set _ _ args.i _ _ (omega arith) (shifted_low args.set value _ is c.if-value-ge-BYTES.false) c.put_byte.ensures

@@ -1,8 +1,9 @@
 -- `code_sets::readers::turn_in` meets its contract: what a value means is its step, and each meaning is one of three: bytes that are put, a
 -- change or a shift that gives none, or nothing legal.
-use Rattle.std.proofs.Common.{arith, ℕ, ◌+◌, ◌≡◌, Bool, List, [], get_or, sym, ◌∙◌}
+use Rattle.std.proofs.Common.{arith, ℕ, ◌+◌, ◌≡◌, Bool, List, [], get_or, Result, Err, sym, ◌∙◌}
 use Rattle.code_sets.specs.declared.readers.Run.{Run}
-use Rattle.code_sets.specs.declared.readers.Run.TheVariants.{Stuck}
+use Rattle.refusal.specs.declared.Refusal.{Refusal}
+use Rattle.refusal.specs.declared.Refusal.TheVariants.{Sequence}
 use Rattle.code_sets.specs.Sets.{Set, Meaning, byte, pair, change, shift, separator, illegal}
 use Rattle.code_sets.specs.Reading.{Mode, in_set, shifted_from, Step, step, stuck, emitted, meant, step_in}
 use Rattle.code_sets.specs.Readers.{Came, Runs, RunPuts}
@@ -30,21 +31,21 @@ module _ (c : After-meaning_in) where
   abbrev StepIs : Step → Type 0
   StepIs s = step_in (in_set set) (get_or values i 0) ≡ s
 
-  abbrev Turns : Run → List ℕ → Type 0
+  abbrev Turns : Result Run Refusal → List ℕ → Type 0
   Turns r after = Runs (in_set set) set values i text n (i + 1) r after
 
   is-step : (meaning : Meaning) → c.meaning_in.result ≡ meaning → StepIs (meant set meaning)
   is-step meaning e = step_of set (get_or values i 0) meaning (sym c.meaning_in.ensures ∙ e)
 
   goes_to : (next : Mode) → StepIs (step [] next) → Came (in_set set) values i text n next (i + 1) text n
-  goes_to = passes (in_set set) values i c.requires.0 text c.requires.1 n c.requires.2
+  goes_to = passes (in_set set) values i c.requires.0 text c.told-text n c.requires.1
 
-  stuck_at : StepIs stuck → Turns Stuck text
-  stuck_at e = record { reached = sticks (in_set set) values i c.requires.0 text c.requires.1 n c.requires.2 e }
+  stuck_at : StepIs stuck → Turns (Err Sequence) text
+  stuck_at e = record { reached = sticks (in_set set) values i c.requires.0 text c.told-text n c.requires.1 e }
 
-  puts : {legal : Bool} {bytes : List ℕ} {r : Run} {after : List ℕ} → RunPuts legal bytes (i + 1) n text r after → StepIs (emitted legal bytes (in_set set)) → Turns r after
+  puts : {legal : Bool} {bytes : List ℕ} {r : Result Run Refusal} {after : List ℕ} → RunPuts legal bytes (i + 1) n text r after → StepIs (emitted legal bytes (in_set set)) → Turns r after
   puts {legal} {bytes} {r} {after} p e =
-      turns (in_set set) values i c.requires.0 text c.requires.1 n c.requires.2 set legal bytes (i + 1) r after (omega arith) e p
+      turns (in_set set) values i c.requires.0 text c.told-text n c.requires.1 set legal bytes (i + 1) r after (omega arith) e p
 
 pub returns-in-Byte : goal.returns-in-Byte
 returns-in-Byte c =

@@ -1,17 +1,18 @@
 -- `gs1_128::drawing::draw` meets its promise: the room is tested before the first store, and then the characters and the stop fill as many
 -- places as they have widths.
-use Prim.Native.Nat.{ℕ, ◌+◌, ◌-◌, ◌*◌}
-use mathlib.Core.Path.{sym, ap, ap₂, ◌∙◌}
-use mathlib.Core.List.{List, ◌++◌}
+use Rattle.std.specs.Prelude.{Ok}
+use Prim.Native.Nat.{ℕ, ◌+◌, ◌*◌}
+use mathlib.Core.Path.{sym, ap, ◌∙◌}
+use mathlib.Core.List.{◌++◌}
 use native.Mathlib.Omega.{arith}
 use lib.ListN.{length, drop, length-take}
-use Rattle.refusal.specs.declared.Answer.TheVariants.{Done}
+use Rattle.laws.proofs.Parts.{next_part}
 use Rattle.refusal.specs.declared.Refusal.TheVariants.{Room}
 use Rattle.refusal.specs.Outcome.{made}
 use Rattle.refusal.proofs.FillsLaws.{fills_refused, fills_same, laying_made, laying_refused}
 use Rattle.patterns.specs.Patterns.{drawn}
 use Rattle.code128.specs.Characters.{patterns, stop}
-use Rattle.gs1_128.proofs.DrawnLaws.{length_drawn, length_stopped, stop_filled}
+use Rattle.gs1_128.proofs.DrawnLaws.{length_drawn, length_stopped}
 use Rattle.gs1_128.proofs.drawing.draw.Goals as goal
 
 pub returns-then-widths-count : goal.returns-then-widths-count
@@ -37,10 +38,9 @@ returns c =
     let drawing = c.draw_characters in
     fills_same _ (made symbol) widths _ _ (laying_made symbol (length widths) (omega arith))
     (record {
-      answer = ap Done (sym long);
+      answer = ap Ok (sym long);
       lent =
-          stop_filled drawing.new.to widths end (omega arith) (ap length drawing.ensures ∙ length_drawn characters right)
-          (end - 0) (end + 7 - end) (omega arith) (omega arith)
-          c.lay.new.lent c.lay.ensures.lent
-          ∙ ap₂ (λ (front : List ℕ) (n : ℕ). (front ++ stop) ++ drop n widths) drawing.ensures (sym long);
+          rw (drawing.ensures, c.copy_from_slice.ensures.after)
+          (next_part widths (drawn patterns characters) stop end (end + 7) (length_drawn characters right) (omega arith)
+          ∙ ap (λ (n : ℕ). symbol ++ drop n widths) (sym long));
     })

@@ -1,35 +1,24 @@
 -- `scanning::allowed_value` meets its contract: the matcher finds values in the whole table, and those below 103 are the allowed ones.
-use Prim.Native.Nat.{◌<◌}
-use mathlib.Core.Path.{◌≡◌, sym, ◌∙◌}
-use native.Mathlib.Omega.{arith}
-use lib.ListN.{length}
-use Rattle.patterns.specs.Patterns.{value_in}
+use Rattle.std.proofs.Common.{◌∙◌, arith}
 use Rattle.patterns.proofs.MatchLaws.{value_of_match, value_of_nothing}
 use Rattle.code128.specs.Characters.{patterns}
 use Rattle.code128.proofs.PatternLaws.{patterns_are}
 use Rattle.gs1_128.proofs.TableLaws.{allowed_found, allowed_missing}
-use Rattle.gs1_128.proofs.scanning.allowed_value.Goals.{In-Value}
 use Rattle.gs1_128.proofs.scanning.allowed_value.Goals as goal
 
-pub returns-in_default : goal.returns-in_default
-returns-in_default c =
+pub returns-in_err-value : goal.returns-in_err-value
+returns-in_err-value c =
     let part = c.args.part.now in
-    let told = c.in_default.is in
-    told ∙ allowed_missing part (omega (arith, value_of_nothing patterns part (sym told ∙ c.value_of-found.ensures), patterns_are))
-
-found : (c : In-Value) → (value_in patterns c.args.part.now ≡ c.in-Value.value) × (c.in-Value.value < length patterns)
-found c =
-    let part = c.args.part.now in
-    let value = c.in-Value.value in
-    value_of_match patterns part value (sym c.in-Value.is ∙ c.value_of-found.ensures)
+    c.from_residual.ensures ∙ allowed_missing part (omega (arith, value_of_nothing patterns part c.in_err-value.ensures, patterns_are))
 
 pub returns-then-value-ge-LEAST_START : goal.returns-then-value-ge-LEAST_START
 returns-then-value-ge-LEAST_START c =
     let part = c.args.part.now in
-    allowed_missing part (omega (arith, (found (goal.at.returns-then-value-ge-LEAST_START c).In-Value).0))
+    let found = value_of_match patterns part c.in_ok-value.value c.in_ok-value.ensures in
+    allowed_missing part (omega (arith, found.0))
 
-pub returns : goal.returns
-returns c =
+pub returns-else-value-ge-LEAST_START : goal.returns-else-value-ge-LEAST_START
+returns-else-value-ge-LEAST_START c =
     let part = c.args.part.now in
-    let value = c.in-Value.value in
-    allowed_found part value (found (goal.at.returns c).In-Value).0 (omega arith)
+    let value = c.in_ok-value.value in
+    allowed_found part value (value_of_match patterns part value c.in_ok-value.ensures).0 c.if-value-ge-LEAST_START.false

@@ -1,13 +1,9 @@
 -- `scanning::start_of` meets its contract: the matcher finds values in the whole table, and a start is one from 103 on; each end that is
 -- wrong is the rule's refusal 4.
-use Prim.Native.Nat.{ℕ, ◌+◌, ◌-◌, ◌<◌}
-use mathlib.Core.Path.{◌≡◌, sym, ap, ◌∙◌}
-use mathlib.Core.Bool.{true, false}
-use mathlib.Core.List.{List}
-use native.Mathlib.Omega.{arith}
-use lib.ListN.{length, take, drop, length-drop}
+use Rattle.std.proofs.Common.{◌≡◌, ℕ, ◌+◌, ◌-◌, ◌<◌, ◌≤◌, true, false, List, length, take, drop, Some, None, sym, ap, ◌∙◌, arith, length-drop}
 use lib.Seq.{take_all}
 use borrow.Author.Tests.{lt-ltb}
+use Rattle.laws.proofs.Results.{passed_on}
 use Rattle.refusal.specs.declared.Refusal.TheVariants.{Guard}
 use Rattle.refusal.specs.Outcome.{made, refused}
 use Rattle.refusal.specs.Fills.{answered}
@@ -18,7 +14,7 @@ use Rattle.code128.proofs.PatternLaws.{patterns_are}
 use Rattle.gs1_128.specs.Symbol.{starts}
 use Rattle.gs1_128.specs.Scanning.{guarded, start_in}
 use Rattle.gs1_128.proofs.TableLaws.{value_start, no_start}
-use Rattle.gs1_128.proofs.scanning.start_of.Goals.{After-equal}
+use Rattle.gs1_128.proofs.scanning.start_of.Goals.{In_ok-start, After-equal}
 use Rattle.gs1_128.proofs.scanning.start_of.Goals as goal
 
 module _ (widths : List ℕ) where
@@ -40,27 +36,30 @@ module _ (widths : List ℕ) where
   unfolding start_in guarded
   both-there v is h e = rw (lt-ltb front 3 h, e, is)
 
-pub returns-in_default : goal.returns-in_default
-returns-in_default c =
+start-is : (widths : List ℕ) (start : ℕ) → (value_in patterns (take 6 widths) ≡ start) × (start < length patterns) → 103 ≤ start → (start ≡ 103 + front widths) × (front widths < 3)
+start-is widths start found h = omega (arith, found, patterns_are, value_start (take 6 widths) (omega (arith, found.0)))
+
+pub returns-in_err-start : goal.returns-in_err-start
+returns-in_err-start c =
     let widths = c.args.widths.now in
     let six = take 6 widths in
-    let none = value_of_nothing patterns six (sym c.in_default.is ∙ c.value_of-found.ensures) in
-    sym (ap answered (no-start-there widths (omega (arith, none, patterns_are, value_start six (omega (arith, none, patterns_are))))))
+    let f = c.in_err-start.field-0.0 in
+    let missed : None ≡ c.value_of.result = grind arith in
+    let is : Guard ≡ f = grind arith in
+    let none = value_of_nothing patterns six (missed ∙ c.value_of.ensures) in
+    rw (passed_on _ f c.from_residual.ensures.1)
+    (sym (ap answered (no-start-there widths (omega (arith, none, patterns_are, value_start six (omega (arith, none, patterns_are)))) ∙ ap refused is)))
+
+found : (c : In_ok-start) → (value_in patterns (take 6 c.args.widths.now) ≡ c.in_ok-start.start) × (c.in_ok-start.start < length patterns)
+found c =
+    let some : Some c.in_ok-start.start ≡ c.value_of.result = grind arith in
+    value_of_match patterns (take 6 c.args.widths.now) c.in_ok-start.start (some ∙ c.value_of.ensures)
 
 pub returns-then-start-lt-LEAST_START : goal.returns-then-start-lt-LEAST_START
 returns-then-start-lt-LEAST_START c =
     let widths = c.args.widths.now in
-    let six = take 6 widths in
-    let found = value_of_match patterns six c.in-Value.start (sym c.in-Value.is ∙ c.value_of-found.ensures) in
-    sym (ap answered (no-start-there widths (no_start six (omega (arith, found.0)))))
-
-is-start : (c : After-equal) → (c.in-Value.start ≡ 103 + front c.args.widths.now) × (front c.args.widths.now < 3)
-is-start c =
-    let widths = c.args.widths.now in
-    let six = take 6 widths in
-    let start = c.in-Value.start in
-    let found = value_of_match patterns six start (sym c.in-Value.is ∙ c.value_of-found.ensures) in
-    omega (arith, c.if-start-lt-LEAST_START.false, found, patterns_are, value_start six (omega (arith, found.0, c.if-start-lt-LEAST_START.false)))
+    let there = found (goal.at.returns-then-start-lt-LEAST_START c).In_ok-start in
+    sym (ap answered (no-start-there widths (no_start (take 6 widths) (omega (arith, there.0)))))
 
 ends : (c : After-equal) → c.equal.result ≡ same (back c.args.widths.now) stop
 ends c =
@@ -69,13 +68,11 @@ ends c =
 
 pub returns-then-not-equal : goal.returns-then-not-equal
 returns-then-not-equal c =
-    let there = (goal.at.returns-then-not-equal c).After-equal in
-    let widths = c.args.widths.now in
-    sym (ap answered (no-stop-there widths (is-start there).1 (sym (ends there) ∙ c.if-not-equal.true)))
+    let at = goal.at.returns-then-not-equal c in
+    sym (ap answered (no-stop-there c.args.widths.now (start-is c.args.widths.now c.in_ok-start.start (found at.In_ok-start) c.if-start-lt-LEAST_START.false).1 (sym (ends at.After-equal) ∙ c.if-not-equal.true)))
 
 pub returns : goal.returns
 returns c =
-    let there = (goal.at.returns c).After-equal in
-    let widths = c.args.widths.now in
-    let start = c.in-Value.start in
-    sym (ap answered (both-there widths start (is-start there).0 (is-start there).1 (sym (ends there) ∙ c.if-not-equal.false)))
+    let at = goal.at.returns c in
+    let start = start-is c.args.widths.now c.in_ok-start.start (found at.In_ok-start) c.if-start-lt-LEAST_START.false in
+    sym (ap answered (both-there c.args.widths.now c.in_ok-start.start start.0 start.1 (sym (ends at.After-equal) ∙ c.if-not-equal.false)))

@@ -1,5 +1,6 @@
 -- `values::judged` meets its contract: the last value is compared with the check of the others, and then the first with FNC1, in the rule's
 -- order.
+use Rattle.std.specs.Prelude.{Ok}
 use Prim.Native.Nat.{ℕ, ◌-◌}
 use mathlib.Core.Path.{◌≡◌, sym, ap, ◌∙◌}
 use mathlib.Core.List.{List}
@@ -7,7 +8,6 @@ use native.Mathlib.Nat.{sub-zero}
 use native.Mathlib.Omega.{arith}
 use lib.ListN.{length, get_or, take, drop, length-take, length-drop}
 use borrow.Author.Tests.{eq-eqb, ne_eqb}
-use Rattle.refusal.specs.declared.Answer.TheVariants.{Done}
 use Rattle.refusal.specs.declared.Refusal.TheVariants.{CheckCharacter, FirstCharacter}
 use Rattle.refusal.specs.Outcome.{made, refused}
 use Rattle.refusal.specs.Fills.{answer_of}
@@ -60,4 +60,4 @@ returns c =
     let values = c.args.values.now in
     let start = c.args.start in
     let count : length values - 1 - 1 ≡ length (take (length values - 2) (drop 1 values)) = simp (length-take, length-drop) (omega arith) in
-    ap Done count ∙ sym (ap answer_of (right start values (c.if-values-last.false ∙ check-is (goal.at.returns c).After-check_of) c.if-values-ne-FNC1.false))
+    ap Ok count ∙ sym (ap answer_of (right start values (c.if-values-last.false ∙ check-is (goal.at.returns c).After-check_of) c.if-values-ne-FNC1.false))

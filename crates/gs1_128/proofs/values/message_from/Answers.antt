@@ -1,61 +1,35 @@
 -- `values::message_from` meets its contract: what the sets' reader or the message's test refuses is passed on, and the text that passed both
 -- stands at the front of the list.
-use Prim.Native.Nat.{◌≤◌}
-use mathlib.Core.Path.{◌≡◌, sym, ◌∙◌}
-use lib.ListN.{length, take}
-use lib.Seq.{length-take-le}
-use Rattle.refusal.specs.declared.Answer.TheVariants.{Refused}
+use Rattle.std.proofs.Common.{◌≡◌, ◌≤◌, length, take, refl, sym, ◌∙◌, arith}
+use Rattle.laws.proofs.Results.{passed_on}
 use Rattle.refusal.specs.Outcome.{made}
 use Rattle.refusal.proofs.FillsLaws.{refused_of_answer, made_of_answer}
-use Rattle.refusal.proofs.OwnLaws.{own_passed, own_same, own_front}
+use Rattle.refusal.proofs.OwnLaws.{own_refused, own_same, own_front}
 use Rattle.code_sets.specs.Reading.{decoded}
 use Rattle.gs1_128.proofs.StageLaws.{text_refused, message_wrong, message_right}
-use Rattle.gs1_128.proofs.values.message_from.Goals.{In-Done}
+use Rattle.gs1_128.proofs.values.message_from.Goals.{In_ok-count}
 use Rattle.gs1_128.proofs.values.message_from.Goals as goal
 
-pub returns-in_default : goal.returns-in_default
-returns-in_default c =
-    let start = c.args.start in
-    let values = c.args.values.now in
-    let f = c.in_default.field-0 in
-    let is : c.text_of-read.result ≡ Refused f = c.in_default.is in
-    own_passed _ _ _ f _ is (text_refused start values f (refused_of_answer _ f (sym is ∙ c.text_of-read.ensures.answer)))
+pub returns-in_err-count : goal.returns-in_err-count
+returns-in_err-count c =
+    let f = c.in_err-count.field-0.0 in
+    rw (passed_on _ f c.from_residual.ensures.1) (own_refused _ _ _ f (text_refused c.args.start c.args.values.now f (refused_of_answer _ f c.in_err-count.ensures.answer)))
 
-front : (c : In-Done) → (decoded c.args.start c.args.values.now ≡ made (take c.in-Done.count c.text_of-read.new.text)) × (c.in-Done.count ≤ length c.text_of-read.new.text)
-front c =
-    let own = c.text_of-read.new.text in
-    let count = c.in-Done.count in
-    own_front _ _ own c.text_of-read.result count c.in-Done.is c.text_of-read.ensures
+front : (c : In_ok-count) → (decoded c.args.start c.args.values.now ≡ made (take c.in_ok-count.count c.text_of.new.text)) × (c.in_ok-count.count ≤ length c.text_of.new.text)
+front c = own_front _ _ c.text_of.new.text _ c.in_ok-count.count refl c.in_ok-count.ensures
 
-pub slice_bounds-test-end-2 : goal.slice_bounds-test-end-2
-slice_bounds-test-end-2 c =
-    let count = c.in-Done.count in
-    let own = c.text_of-read.new.text in
-    sym (length-take-le count own (front c).1)
+pub shared_ref_as_front-test : goal.shared_ref_as_front-test
+shared_ref_as_front-test c = omega (arith, c.text_of.array_long, (front (goal.at.shared_ref_as_front-test c).In_ok-count).1)
 
-pub returns-in_default-tested : goal.returns-in_default-tested
-returns-in_default-tested c =
-    let start = c.args.start in
-    let values = c.args.values.now in
-    let count = c.in-Done.count in
-    let own = c.text_of-read.new.text in
-    let f = c.in_default-tested.field-0 in
-    let is : c.test-tested.result ≡ Refused f = c.in_default-tested.is in
-    own_passed _ _ _ f _ is
-    (message_wrong start values (take count own) (front (goal.at.returns-in_default-tested c).In-Done).0 f (refused_of_answer _ f (sym is ∙ c.test-tested.ensures)))
+pub returns-in_err-test : goal.returns-in_err-test
+returns-in_err-test c =
+    let f = c.in_err-test.field-0.0 in
+    rw (passed_on _ f c.from_residual-in_err-test.ensures.1)
+    (own_refused _ _ _ f
+    (message_wrong c.args.start c.args.values.now _ (front (goal.at.returns-in_err-test c).In_ok-count).0 f (refused_of_answer _ f c.in_err-test.ensures)))
 
 pub returns : goal.returns
 returns c =
-    let there = (goal.at.returns c).In-Done in
-    let start = c.args.start in
-    let values = c.args.values.now in
-    let count = c.in-Done.count in
-    let own = c.text_of-read.new.text in
-    let strings = made_of_answer _ c.in-Done-tested.field-0 (sym c.in-Done-tested.is ∙ c.test-tested.ensures) in
-    let right = message_right start values (take count own) (front there).0 strings.0 strings.1 in
-    let fills = c.text_of-read.ensures in
-    own_same _ _ _ _ _ (right ∙ sym (front there).0) (record { answer = sym c.in-Done.is ∙ fills.answer; lent = fills.lent })
-
-pub slice_bounds-test-end : goal.slice_bounds-test-end
-slice_bounds-test-end c =
-    (front c).1
+    let text = (front (goal.at.returns c).In_ok-count).0 in
+    let strings = made_of_answer _ _ c.in_ok-test.ensures in
+    own_same _ _ _ _ _ (message_right c.args.start c.args.values.now _ text strings.0 strings.1 ∙ sym text) c.in_ok-count.ensures

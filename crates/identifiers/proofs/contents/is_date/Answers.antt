@@ -1,14 +1,13 @@
 -- `identifiers::contents::is_date` meets its contract: each `return` has the tests of the definition behind it.
-use Prim.Native.Nat.{ℕ, ◌+◌, ◌<◌}
-use mathlib.Core.Path.{◌≡◌, sym, ◌∙◌}
-use mathlib.Core.Bool.{true, false}
-use native.Mathlib.Omega.{arith}
-use borrow.Author.Tests.{eqb-true, le-leb, lt-leb}
-use lib.ListN.{length, get_or}
+use Rattle.std.proofs.Common.{ℕ, true, false, ◌<◌, ◌≡◌, get_or, sym, ap, ◌∙◌, arith}
+use mathlib.Core.Bool.{◌&&◌}
+use lib.Dec.{leb}
+use borrow.Author.Tests.{eqb-true}
 use Rattle.laws.proofs.FirstLaws.{all_pass as each_passes}
+use Rattle.laws.proofs.Ranges.{range_has}
 use Rattle.digits.specs.Digit.{is_digit}
 use Rattle.identifiers.specs.Data.{all_pass, pair_at, is_date}
-use Rattle.identifiers.proofs.contents.is_date.Goals.{After-pair_at-month, Else-not-is_digits}
+use Rattle.identifiers.proofs.contents.is_date.Goals.{After-contains, Else-not-is_digits}
 use Rattle.identifiers.proofs.contents.is_date.Goals as goal
 
 pub returns-then-not-is_digits : goal.returns-then-not-is_digits
@@ -23,48 +22,34 @@ all c =
 
 digit : (c : Else-not-is_digits) → (i : ℕ) → i < 6 → is_digit (get_or c.args.bytes.now i 0) ≡ true
 digit c i h =
-    let bytes = c.args.bytes.now in
-    each_passes is_digit bytes (eqb-true _ _ (all c)) i 0 (omega (arith, c.requires))
-
--- a pair of digits stands at each place that has a next one
-paired : (c : Else-not-is_digits) → (i : ℕ) → i < 5 → (i + 1 < length c.args.bytes.now) × ((is_digit (get_or c.args.bytes.now i 0) ≡ true) × (is_digit (get_or c.args.bytes.now (i + 1) 0) ≡ true))
-paired c i h =
-    (omega (arith, c.requires), ((digit c) i (omega arith), (digit c) (i + 1) (omega arith)))
+    each_passes is_digit c.args.bytes.now (eqb-true _ _ (all c)) i 0 (omega (arith, c.requires))
 
 pub pair_at-month-requires : goal.pair_at-month-requires
 pair_at-month-requires c =
-    let p = paired c 2 (omega arith) in
-    record { at_in_bounds = p.0; at_value = p.1.0; at_value_2 = p.1.1 }
-
-pub returns-then-month-lt1 : goal.returns-then-month-lt1
-unfolding is_date
-returns-then-month-lt1 c =
-    let bytes = c.args.bytes.now in
-    let month = pair_at bytes 2 in
-    rw (all (goal.at.returns-then-month-lt1 c).Else-not-is_digits, lt-leb 1 month (omega (arith, c.pair_at-month.ensures.value)))
-
-pub returns-then-month-gt12 : goal.returns-then-month-gt12
-unfolding is_date
-returns-then-month-gt12 c =
-    let bytes = c.args.bytes.now in
-    let month = pair_at bytes 2 in
-    let is = c.pair_at-month.ensures.value in
-    rw (all (goal.at.returns-then-month-gt12 c).Else-not-is_digits, le-leb 1 month (omega arith), lt-leb month 12 (omega arith))
+    record { at_in_bounds = omega (arith, c.requires); at_value = digit c 2 (omega arith); at_value_2 = digit c 3 (omega arith) }
 
 pub pair_at-requires : goal.pair_at-requires
 pair_at-requires c =
-    let p = paired (goal.at.pair_at-requires c).Else-not-is_digits 0 (omega arith) in
-    record { at_in_bounds = p.0; at_value = p.1.0; at_value_2 = p.1.1 }
+    let there = (goal.at.pair_at-requires c).Else-not-is_digits in
+    record { at_in_bounds = omega (arith, c.requires); at_value = digit there 4 (omega arith); at_value_2 = digit there 5 (omega arith) }
 
 pub pair_at-requires-2 : goal.pair_at-requires-2
 pair_at-requires-2 c =
-    let p = paired (goal.at.pair_at-requires-2 c).Else-not-is_digits 4 (omega arith) in
-    record { at_in_bounds = p.0; at_value = p.1.0; at_value_2 = p.1.1 }
+    let there = (goal.at.pair_at-requires-2 c).Else-not-is_digits in
+    record { at_in_bounds = omega (arith, c.requires); at_value = digit there 0 (omega arith); at_value_2 = digit there 1 (omega arith) }
+
+month : (c : After-contains) → c.contains.result ≡ (leb 1 (pair_at c.args.bytes.now 2) && leb (pair_at c.args.bytes.now 2) 12)
+month c =
+    c.contains.ensures.value ∙ range_has _ 1 12 _ c.new.ensures.start c.new.ensures.end c.new.ensures.exhausted ∙ ap (λ (m : ℕ). leb 1 m && leb m 12) c.pair_at-month.ensures.value
+
+pub returns-then-not-contains : goal.returns-then-not-contains
+unfolding is_date
+returns-then-not-contains c =
+    let none = sym (month (goal.at.returns-then-not-contains c).After-contains) ∙ c.if-not-contains.true in
+    rw (all (goal.at.returns-then-not-contains c).Else-not-is_digits, none)
 
 pub returns : goal.returns
 unfolding is_date
 returns c =
-    let bytes = c.args.bytes.now in
-    let month = pair_at bytes 2 in
-    let is = c.pair_at-month.ensures.value in
-    rw (all (goal.at.returns c).Else-not-is_digits, le-leb 1 month (omega arith), le-leb month 12 (omega arith), c.pair_at-2.ensures.value, c.days_in-last.ensures, c.pair_at.ensures.value, is)
+    let one = sym (month (goal.at.returns c).After-contains) ∙ c.if-not-contains.false in
+    rw (all (goal.at.returns c).Else-not-is_digits, one, c.days_in.ensures, c.pair_at.ensures.value, c.pair_at-2.ensures.value, c.pair_at-month.ensures.value)

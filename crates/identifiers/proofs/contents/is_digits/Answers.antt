@@ -1,10 +1,8 @@
--- `identifiers::contents::is_digits` meets its contract: the first byte that is no digit lies past the end.
-use Prim.Native.Nat.{ℕ}
-use mathlib.Core.Path.{ap}
-use lib.ListN.{length}
-use lib.Dec.{eqb}
+-- `identifiers::contents::is_digits` meets its contract: every byte is a digit exactly where the first that is none lies past the end.
+use Rattle.std.proofs.Common.{rules}
+use Rattle.laws.proofs.FirstLaws.{all_met}
+use Rattle.digits.specs.Digit.{is_digit}
 use Rattle.identifiers.proofs.contents.is_digits.Goals as goal
 
 pub returns : goal.returns
-returns c =
-    ap (λ (n : ℕ). eqb n (length c.args.bytes.now)) c.first_other.ensures
+returns c = all_met is_digit c.args.bytes.now 0 c.all.result (search rules) (search rules)

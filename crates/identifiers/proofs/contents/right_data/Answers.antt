@@ -1,6 +1,6 @@
 -- `identifiers::contents::right_data` meets its contract: each `return` has the tests of the definition behind it; a kind's sizes are those of its content.
-use mathlib.Core.Path.{sym, ◌∙◌}
-use native.Mathlib.Omega.{arith}
+use Rattle.std.proofs.Common.{false, ◌≡◌, ◌<◌, ◌≤◌, length, sym, ◌∙◌, arith}
+use mathlib.Core.Logic.{◌⊎◌, inl, inr}
 use borrow.Author.Tests.{le-leb, lt-leb}
 use Rattle.identifiers.specs.declared.Content.TheVariants.{DigitsWithCheck, Date, Digits, Text}
 use Rattle.identifiers.specs.Data.{passes, right_data}
@@ -9,13 +9,11 @@ use Rattle.identifiers.proofs.contents.right_data.Goals as goal
 
 pub returns-then-bytes-kind : goal.returns-then-bytes-kind
 unfolding right_data
-returns-then-bytes-kind c =
-    rw (lt-leb _ _ c.if-bytes-kind.true)
-
-pub returns-then-kind-bytes : goal.returns-then-kind-bytes
-unfolding right_data
-returns-then-kind-bytes c =
-    rw (le-leb _ _ c.if-bytes-kind.false, lt-leb _ _ c.if-kind-bytes.true)
+returns-then-bytes-kind c = go c.then-bytes-kind.either
+  where
+    go : (length c.args.bytes.now < c.args.kind.least) ⊎ ((c.args.kind.least ≤ length c.args.bytes.now) × (c.args.kind.most < length c.args.bytes.now)) → false ≡ right_data c.args.kind c.args.bytes.now
+    go (inl short) = rw (lt-leb _ _ short)
+    go (inr long) = rw (le-leb _ _ long.0, lt-leb _ _ long.1)
 
 pub is_number-requires : goal.is_number-requires
 is_number-requires c =

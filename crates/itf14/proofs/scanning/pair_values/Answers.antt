@@ -9,13 +9,14 @@ use native.Mathlib.Omega.{arith}
 use lib.ListN.{length, take, drop, length-drop, length-set}
 use lib.Seq.{take_all, drop-drop}
 use borrow.Author.Tests.{eq-eqb, ne_eqb}
+use Rattle.laws.proofs.Results.{passed_on}
 use Rattle.refusal.specs.declared.Refusal.TheVariants.{Count, Guard, Pattern}
 use Rattle.refusal.specs.Outcome.{refused}
-use Rattle.refusal.proofs.OwnLaws.{own_filled, own_refused}
+use Rattle.refusal.proofs.OwnLaws.{own_filled, own_refused, own_passed}
 use Rattle.patterns.specs.Patterns.{same, characters}
 use Rattle.patterns.specs.Matching.{match_in}
 use Rattle.patterns.specs.Between.{between}
-use Rattle.patterns.proofs.ScanLaws.{scan_begins, scan_ends, scan_stops, scan_goes}
+use Rattle.patterns.proofs.ScanLaws.{scan_ends, scan_stops, scan_goes}
 use Rattle.itf14.specs.Tables.{pairs, start, stop}
 use Rattle.itf14.proofs.scanning.pair_values.Goals.{After-equal-2, After-pair_value, Else-not-equal-2}
 use Rattle.itf14.proofs.scanning.pair_values.Goals as goal
@@ -52,12 +53,6 @@ unfolding between
 scanning c starts compared =
     rw (eq-eqb _ _ c.if-widths-ne-WIDTHS.false, starts, compared ∙ c.if-not-equal-2.false)
 
-pub loop-i-init : goal.loop-i-init
-loop-i-init c =
-    let widths = c.args.widths.now in
-    let bars = drop 4 widths in
-    (omega arith, omega arith, scan_begins pairs 10 7 0 bars c.args.values.now)
-
 answered : (c : After-pair_value) → c.pair_value.result ≡ match_in pairs (take 10 (drop (10 * c.loop-i.i) (drop 4 c.args.widths.now)))
 answered c =
     let i = c.loop-i.i in
@@ -65,34 +60,28 @@ answered c =
     let size : 4 + 10 * i + 10 - (4 + 10 * i) ≡ 10 = omega arith in
     c.pair_value.ensures ∙ ap₂ (λ (n : ℕ) (part : List ℕ). match_in pairs (take n part)) size (sym (drop-drop (10 * i) 4 widths))
 
-pub returns-in_default : goal.returns-in_default
-returns-in_default c =
+pub returns-in_err-values : goal.returns-in_err-values
+returns-in_err-values c =
     let i = c.loop-i.i in
-    let widths = c.args.widths.now in
-    let bars = drop 4 widths in
-    let there = (goal.at.returns-in_default c).After-equal-2 in
-    own_refused _ _ _ (Pattern i)
-    (scanning (goal.at.returns-in_default c).Else-not-equal-2 (starts there) (stop-compared there)
-    ∙ scan_stops pairs 10 7 0 bars c.loop-i.values i (omega arith) c.loop-i.invariant.2 (sym c.in_default.is ∙ answered (goal.at.returns-in_default c).After-pair_value)
+    let none = c.in_err-values.ensures in
+    let there = (goal.at.returns-in_err-values c).After-equal-2 in
+    own_passed _ _ _ (Pattern i) _ (passed_on _ c.in_err-values.field-0.0 c.from_residual.ensures.1 ∙ rw none.ok_part at none.value)
+    (scanning (goal.at.returns-in_err-values c).Else-not-equal-2 (starts there) (stop-compared there)
+    ∙ scan_stops pairs 10 7 0 (drop 4 c.args.widths.now) c.loop-i.values i (omega arith) c.loop-i.invariant.1 (sym none.ok_part ∙ answered (goal.at.returns-in_err-values c).After-pair_value)
     ∙ ap (λ (n : ℕ). refused (Pattern n)) (zero-add i))
 
 pub loop-i-preserved : goal.loop-i-preserved
-loop-i-preserved c =
-    let widths = c.args.widths.now in
-    let bars = drop 4 widths in
-    let i = c.loop-i.i in (
-      omega arith,
-      simp length-set (omega arith),
-      scan_goes pairs 10 7 0 bars c.loop-i.values i (omega arith) c.loop-i.invariant.2 c.in-Value.value (omega arith) (sym c.in-Value.is ∙ answered (goal.at.loop-i-preserved c).After-pair_value),
-    )
+loop-i-preserved c = (
+  simp length-set (omega arith),
+  scan_goes pairs 10 7 0 (drop 4 c.args.widths.now) c.loop-i.values c.loop-i.i (omega arith) c.loop-i.invariant.1 c.in_ok-values.field-0 (omega arith)
+      (sym c.in_ok-values.ensures.ok_part ∙ answered (goal.at.loop-i-preserved c).After-pair_value),
+)
 
 pub returns : goal.returns
 returns c =
-    let widths = c.args.widths.now in
-    let bars = drop 4 widths in
-    let loop = c.loop-i in
-    let over : loop.i ≡ 7 = omega arith in
+    let values = c.loop-i.values in
+    let over : c.loop-i.i ≡ 7 = omega arith in
     let there = (goal.at.returns c).After-equal-2 in
-    let scanned = scanning (goal.at.returns c).Else-not-equal-2 (starts there) (stop-compared there) in
-    rw over
-    (own_filled _ _ loop.values 7 (scanned ∙ scan_ends pairs 10 7 0 bars loop.values (omega arith) (rw over at loop.invariant.2)) (omega arith) (omega arith))
+    own_filled _ _ values 7
+    (scanning (goal.at.returns c).Else-not-equal-2 (starts there) (stop-compared there) ∙ scan_ends pairs 10 7 0 (drop 4 c.args.widths.now) values (omega arith) (rw over at c.loop-i.invariant.1))
+    (omega arith) (omega arith)

@@ -1,60 +1,9 @@
--- `requests::words::find` meets its contract: each test is that of a row, and a row whose test fails is passed.
+-- `requests::words::find` meets its contract: the table, computed, is the rule's.
+use Rattle.std.proofs.Common.{◌∙◌}
 use Rattle.requests.specs.Words.{calls}
-use Rattle.requests.proofs.WordLaws.{found, passed}
+use Rattle.requests.proofs.WordLaws.{by_rule}
 use Rattle.requests.proofs.words.find.Goals as goal
-
-pub returns-then-equal : goal.returns-then-equal
-unfolding calls
-returns-then-equal c =
-    found _ _ _ c.equal.ensures c.if-equal.true
-
-pub returns-then-equal-2 : goal.returns-then-equal-2
-unfolding calls
-returns-then-equal-2 c =
-    passed _ _ _ c.equal.ensures c.if-equal.false
-    (found _ _ _ c.equal-2.ensures c.if-equal-2.true)
-
-pub returns-then-equal-3 : goal.returns-then-equal-3
-unfolding calls
-returns-then-equal-3 c =
-    passed _ _ _ c.equal.ensures c.if-equal.false
-    (passed _ _ _ c.equal-2.ensures c.if-equal-2.false
-    (found _ _ _ c.equal-3.ensures c.if-equal-3.true))
-
-pub returns-then-equal-4 : goal.returns-then-equal-4
-unfolding calls
-returns-then-equal-4 c =
-    passed _ _ _ c.equal.ensures c.if-equal.false
-    (passed _ _ _ c.equal-2.ensures c.if-equal-2.false
-    (passed _ _ _ c.equal-3.ensures c.if-equal-3.false
-    (found _ _ _ c.equal-4.ensures c.if-equal-4.true)))
-
-pub returns-then-equal-5 : goal.returns-then-equal-5
-unfolding calls
-returns-then-equal-5 c =
-    passed _ _ _ c.equal.ensures c.if-equal.false
-    (passed _ _ _ c.equal-2.ensures c.if-equal-2.false
-    (passed _ _ _ c.equal-3.ensures c.if-equal-3.false
-    (passed _ _ _ c.equal-4.ensures c.if-equal-4.false
-    (found _ _ _ c.equal-5.ensures c.if-equal-5.true))))
-
-pub returns-then-equal-6 : goal.returns-then-equal-6
-unfolding calls
-returns-then-equal-6 c =
-    passed _ _ _ c.equal.ensures c.if-equal.false
-    (passed _ _ _ c.equal-2.ensures c.if-equal-2.false
-    (passed _ _ _ c.equal-3.ensures c.if-equal-3.false
-    (passed _ _ _ c.equal-4.ensures c.if-equal-4.false
-    (passed _ _ _ c.equal-5.ensures c.if-equal-5.false
-    (found _ _ _ c.equal-6.ensures c.if-equal-6.true)))))
 
 pub returns : goal.returns
 unfolding calls
-returns c =
-    passed _ _ _ c.equal.ensures c.if-equal.false
-    (passed _ _ _ c.equal-2.ensures c.if-equal-2.false
-    (passed _ _ _ c.equal-3.ensures c.if-equal-3.false
-    (passed _ _ _ c.equal-4.ensures c.if-equal-4.false
-    (passed _ _ _ c.equal-5.ensures c.if-equal-5.false
-    (passed _ _ _ c.equal-6.ensures c.if-equal-6.false
-    c.find_reading.ensures)))))
+returns c = c.named_by.ensures ∙ by_rule calls c.args.word.now

@@ -10,6 +10,6 @@ pub returns : goal.returns
 returns c =
     let out = c.args.out.now in
     let source = c.args.source.now in
-    let count = c.lesser-count.result in
-    let least : count ≡ min (length out) (length source) = omega (arith, c.lesser-count.ensures) in
+    let count = c.min-count.result in
+    let least : count ≡ min (length out) (length source) = omega (arith, c.min-count.ensures) in
     puts_fitting source out count _ least (rw c.copy_from_slice.ensures.after)

@@ -1,9 +1,7 @@
--- `text::typed::put_replacing` meets its contract: after i turns the front holds i bytes, replaced, and then what it held, and the loop
--- ends where the shorter of the two lists does.
-use mathlib.Core.List.{map}
-use native.Mathlib.Omega.{arith}
-use lib.ListN.{length-set, length-map}
-use borrow.Author.Tests.{ltb-true, ltb-false}
+-- `text::typed::put_replacing` meets its contract: after i turns the front holds i bytes, replaced, and then what it held, and there are as
+-- many turns as the shorter of the two lists has bytes.
+use Rattle.std.proofs.Common.{◌≡◌, map, length-set, arith}
+use lib.ListN.{length-map}
 use Rattle.laws.proofs.Copying.{mapped_more}
 use Rattle.text.specs.Typed.{replacing}
 use Rattle.text.proofs.PutsLaws.{puts_fitting}
@@ -13,20 +11,14 @@ pub loop-i-preserved : goal.loop-i-preserved
 loop-i-preserved c =
     let loop = c.loop-i in
     let args = c.args in (
-      omega (arith, ltb-true),
-      omega (arith, ltb-true),
       simp length-set (omega arith),
-      rw (loop.invariant.3, c.replaced.ensures) (mapped_more (replacing args.old args.new) args.bytes.now args.out.now loop.i 0 (omega (arith, ltb-true)) (omega (arith, ltb-true))),
+      rw (loop.invariant.1, c.replaced.ensures) (mapped_more (replacing args.old args.new) args.bytes.now args.out.now loop.i 0 (omega arith) (omega arith)),
     )
 
-pub returns-else-i-out : goal.returns-else-i-out
-returns-else-i-out c =
-    let loop = c.loop-i in
+pub returns : goal.returns
+returns c =
     let args = c.args in
-    record { puts = puts_fitting (map (replacing args.old args.new) args.bytes.now) args.out.now loop.i loop.out (rw length-map (omega (arith, ltb-false))) loop.invariant.3; value = omega (arith, ltb-false) }
-
-pub returns-after-loop-i : goal.returns-after-loop-i
-returns-after-loop-i c =
-    let loop = c.loop-i in
-    let args = c.args in
-    record { puts = puts_fitting (map (replacing args.old args.new) args.bytes.now) args.out.now loop.i loop.out (rw length-map (omega arith)) loop.invariant.3; value = omega arith }
+    let count = c.min-count.result in
+    let whole : c.loop-i.i ≡ count = omega arith in
+    let typed = map (replacing args.old args.new) args.bytes.now in
+    record { puts = puts_fitting typed args.out.now count c.loop-i.out (rw length-map (omega arith)) (rw whole at c.loop-i.invariant.1); value = omega arith }

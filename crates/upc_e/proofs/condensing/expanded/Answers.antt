@@ -1,24 +1,22 @@
--- `upc_e::condensing::expanded` meets its contract: the tests that led to each `return` are those of the definition.
-use borrow.Author.Tests.{le-leb, lt-leb, eq-eqb, ne_eqb}
+-- `upc_e::condensing::expanded` meets its contract: the arms are the definition's cases.
+use Rattle.std.proofs.Common.{sym}
+use native.Mathlib.Omega.{arith}
 use Rattle.upc_e.specs.Condensing.{expanded}
+use Rattle.upc_e.proofs.CondensingLaws.{by_two, by_three, by_four, by_more}
 use Rattle.upc_e.proofs.condensing.expanded.Goals as goal
 
-pub returns-then-last-le2 : goal.returns-then-last-le2
+pub returns-in-0-to-2 : goal.returns-in-0-to-2
 unfolding expanded
-returns-then-last-le2 c =
-    simp (le-leb _ 2 c.if-last-le2.true)
+returns-in-0-to-2 c = sym (by_two _ _ _ _ _ _ _ (omega arith))
 
-pub returns-then-last-eq3 : goal.returns-then-last-eq3
+pub returns-in-3 : goal.returns-in-3
 unfolding expanded
-returns-then-last-eq3 c =
-    simp (lt-leb _ 2 c.if-last-le2.false, eq-eqb _ 3 c.if-last-eq3.true)
+returns-in-3 c = sym (by_three _ _ _ _ _ _ _ c.in-3.is)
 
-pub returns-then-last-eq4 : goal.returns-then-last-eq4
+pub returns-in-4 : goal.returns-in-4
 unfolding expanded
-returns-then-last-eq4 c =
-    simp (lt-leb _ 2 c.if-last-le2.false, ne_eqb _ 3 c.if-last-eq3.false, eq-eqb _ 4 c.if-last-eq4.true)
+returns-in-4 c = sym (by_four _ _ _ _ _ _ _ c.in-4.is)
 
-pub returns : goal.returns
+pub returns-in_default : goal.returns-in_default
 unfolding expanded
-returns c =
-    simp (lt-leb _ 2 c.if-last-le2.false, ne_eqb _ 3 c.if-last-eq3.false, ne_eqb _ 4 c.if-last-eq4.false)
+returns-in_default c = sym (by_more _ _ _ _ _ _ _ (omega arith))

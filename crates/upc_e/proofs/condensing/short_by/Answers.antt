@@ -1,26 +1,23 @@
--- `upc_e::condensing::short_by` meets its contract: the tests that led to each `return` tell the rule, and its row is what is returned.
-use mathlib.Core.Path.{◌≡◌, refl}
+-- `upc_e::condensing::short_by` meets its contract: each arm is its rule's row.
+use Rattle.std.proofs.Common.{◌≡◌, refl}
 use native.Mathlib.Omega.{arith}
 use Rattle.upc_e.specs.Condensing.{shorts}
 use Rattle.upc_e.proofs.condensing.short_by.Goals as goal
 
-pub returns-then-rule-eq0 : goal.returns-then-rule-eq0
+pub returns-in-0 : goal.returns-in-0
 unfolding shorts
-returns-then-rule-eq0 c =
-    rw c.if-rule-eq0.true refl
+returns-in-0 c = rw c.in-0.is refl
 
-pub returns-then-rule-eq1 : goal.returns-then-rule-eq1
+pub returns-in-1 : goal.returns-in-1
 unfolding shorts
-returns-then-rule-eq1 c =
-    rw c.if-rule-eq1.true refl
+returns-in-1 c = rw c.in-1.is refl
 
-pub returns-then-rule-eq2 : goal.returns-then-rule-eq2
+pub returns-in-2 : goal.returns-in-2
 unfolding shorts
-returns-then-rule-eq2 c =
-    rw c.if-rule-eq2.true refl
+returns-in-2 c = rw c.in-2.is refl
 
-pub returns : goal.returns
+pub returns-in_default : goal.returns-in_default
 unfolding shorts
-returns c =
-    let third : c.args.rule ≡ 3 = omega (arith, c.requires.rule_bound, c.if-rule-eq0.false) in
+returns-in_default c =
+    let third : c.args.rule ≡ 3 = omega arith in
     rw third refl

@@ -47,4 +47,4 @@ returns c =
     let widths = c.args.widths.now in
     let ends = sym (c.equal-2.ensures ∙ ap (λ (part : List ℕ). same part end_guard) (onward widths 27)) ∙ c.if-not-equal-2.false in
     let is = scanning widths c.if-widths-ne-WIDTHS.false (sym c.equal.ensures ∙ c.if-not-equal.false) ends in
-    own_same _ _ _ _ _ (is ∙ sym (ap₂ (λ (n : ℕ) (part : List ℕ). characters (patterns_of AOrB) 4 n 0 part) c.requires (onward widths 3))) c.half.ensures
+    own_same _ _ _ _ _ (is ∙ sym (ap₂ (λ (n : ℕ) (part : List ℕ). characters (patterns_of AOrB) 4 n 0 part) c.told-values (onward widths 3))) c.half.ensures
