@@ -8,7 +8,7 @@ ghost use Rattle.answers.specs.Lines.{shown_as, Shows, Made, numbers_line, answe
 
 use refusal::Refusal;
 
-// How a list is shown: a digit for each width, or the bytes of a number or a message, with `^` for a separator.
+// How a list is shown, an enum since the promise of a line names it: a digit for each width, or the bytes of a number or a message, with `^` for a separator.
 #[derive(Clone, Copy)]
 pub enum Form {
     Widths,

@@ -12,7 +12,11 @@ mod messages;
 mod records;
 mod symbol_lines;
 
+// Room and places are clauses in this crate and not arrays of a fixed length: the bytes are lent as slices, of which arrays would have to be cut.
 const LONGEST_LINE: usize = 4096;
+
+// The most places that a call is lent.
+const PLACES: usize = 700;
 
 // Answers a line, given without its byte 10, whatever its length. The answer's last byte is its byte 10.
 pub fn answer(line: &[u8], out: &mut [u8]) -> usize
@@ -24,15 +28,14 @@ pub fn answer(line: &[u8], out: &mut [u8]) -> usize
         return answers::put_text(b"error: a line has at most 4096 bytes\n", out);
     }
     let mut typed = [0u8; LONGEST_LINE];
-    let mut list = [0u8; 700];
+    let mut list = [0u8; PLACES];
     let end = text::message_in(line, &mut typed);
     answer_typed(&typed[..end], &mut list, out)
 }
 
 // Answers a line in which every `^` has become the separator that it stands for. A call is lent the front of the list.
-fn answer_typed(line: &[u8], list: &mut [u8], out: &mut [u8]) -> usize
+fn answer_typed(line: &[u8], list: &mut [u8; PLACES], out: &mut [u8]) -> usize
     requires line_len_bound { length line.now ≤ 4096 }
-    requires list_len { length list.old ≡ 700 }
     requires in_bounds { 1024 ≤ length out.old }
     ensures { Puts (answer_by line.now) out.old result out.new }
 {
@@ -48,6 +51,7 @@ fn answer_typed(line: &[u8], list: &mut [u8], out: &mut [u8]) -> usize
     }
 }
 
+// The words are closed, and each has its line of the rule, so a `match` says which.
 fn call(word: Word, typed: &[u8], list: &mut [u8], out: &mut [u8]) -> usize
     requires list_len_bound { length list.old ≤ 700 }
     requires typed_len_bound { length typed.now ≤ 4096 }

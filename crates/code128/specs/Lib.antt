@@ -5,7 +5,6 @@
 --   six_packed, key_of     Matching     six widths as one number, and its key
 --   candidate_of, eights   Matching     the one value that widths with a key can have
 --   packed_patterns        Matching     the patterns, each as one number
---   Other                  Matching     a number that no arm of a `match` names
 --   placed, check_of       Check        the modulo 103 check
 pub mod Characters
 pub mod Matching

@@ -1,6 +1,6 @@
 -- The way that the matcher takes instead of a walk along the patterns: among them, a key of 8 bits, made of the widths as one number, tells
 -- a value from every other. Two tables hold what it looks up, as the code has them; `MatchingLaws` tests both against the patterns.
-use Rattle.std.specs.Prelude.{ℕ, zero, suc, ◌+◌, ◌*◌, ◌/◌, ◌%◌, ◌^◌, ◌≡◌, List, [], ◌∷◌, get_or}
+use Rattle.std.specs.Prelude.{ℕ, ◌+◌, ◌*◌, ◌/◌, ◌%◌, ◌^◌, List, [], ◌∷◌, get_or}
 
 -- six widths as one number: the first at the lowest place, each next one 256 times higher
 abbrev pub six_packed : List ℕ → ℕ
@@ -50,8 +50,3 @@ packed_patterns =
     ∷ 0x0101_0304_0101 ∷ 0x0301_0101_0104 ∷ 0x0101_0301_0104 ∷ 0x0104_0103_0101 ∷ 0x0103_0104_0101 ∷ 0x0104_0101_0103
     ∷ 0x0103_0101_0104 ∷ 0x0201_0401_0102 ∷ 0x0401_0201_0102 ∷ 0x0203_0201_0102
     ∷ []
-
--- x is none of the numbers below n: what is left to the last arm of a `match` that names them all
-abbrev pub Other : ℕ → ℕ → Type 0
-Other x zero = Unit
-Other x (suc n) = Other x n × (x ≡ n → ⊥)

@@ -1,4 +1,4 @@
-// The symbol characters: a value's pattern, and the value of six widths.
+// The symbol characters: a value's pattern, and the value of six widths. Six widths are a part of a longer list, so their count is a clause.
 ghost use Rattle.std.specs.Prelude.{◌≡◌, [], ◌<◌, length, get_or};
 ghost use Rattle.patterns.specs.Matching.{match_in};
 ghost use Rattle.code128.specs.Characters.{patterns};
@@ -35,6 +35,7 @@ pub fn value_of(part: &[u8]) -> Option<u8>
     let widths = packed_six(part);
     let candidate = candidate_of(key_of(widths));
     if widths == tables::packed_of(candidate) {
+        // below 106, so nothing is cut off
         Some(candidate as u8)
     } else {
         None
@@ -48,6 +49,7 @@ fn candidate_of(key: u64) -> usize
     ensures upper_bound { result < 106 }
 {
     let eight = tables::eight_of(key / 8);
+    // below 128, so nothing is cut off
     ((eight >> (8 * (key % 8))) % 128) as usize
 }
 

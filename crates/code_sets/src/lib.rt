@@ -23,7 +23,7 @@ pub fn text_of(start: usize, values: &[u8], text: &mut [u8; 48]) -> Result<usize
     }
 }
 
-// Reads in the set that the start names.
+// Reads in the set that the start names. A start is a number, since the check sums it as one; what any other number is read as is promised too.
 fn read_from(start: usize, values: &[u8], own: &mut [u8; 48]) -> Result<usize, Refusal>
     ensures { FillsOwn (read_on [] (in_set (start_set start)) values.now) own.old result own.new }
 {

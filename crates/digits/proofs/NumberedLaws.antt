@@ -55,9 +55,6 @@ right_done count number n e =
     let r = right_made count number m.0 m.1 in
     subst (λ (ds : List ℕ). RightNumber count number ds) r.values r
 
-pub right_refused : (count : ℕ) (number : List ℕ) (f : Refusal) → Err f ≡ answer_of (right_number count number) → right_number count number ≡ refused f
-right_refused count number f e = refused_of_answer (right_number count number) f e
-
 pub right_of_parts : (count : ℕ) (number ds : List ℕ) → RightNumber count number ds → right_number count number ≡ made ds
 unfolding right_number
 right_of_parts count number ds r =
@@ -181,6 +178,13 @@ module _ (count : ℕ) (symbol : List ℕ → List ℕ) (scanned : List ℕ → 
       written_made count symbol number room' ds (ap (right_number count) (sym bytes) ∙ right_of_parts count (map byte_of ds) ds known)
       ∙ laying_made (symbol ds) room' (rw b.0 fits)
       ∙ ap made b.0
+
+  -- a scan that has filled a list of as many places
+  pub digits_scanned : ((widths ds : List ℕ) → scanned widths ≡ made ds → (symbol ds ≡ widths) × (length ds ≡ count) × Below 10 ds) → (widths before after : List ℕ) (r : Result ℕ Refusal) (n : ℕ) → FillsOwn (scanned widths) before r after → r ≡ Ok n → length before ≡ count → (scanned widths ≡ made after) × (length after ≡ count) × Below 10 after
+  digits_scanned back widths before after r n fills is places =
+      let e = own_made (scanned widths) before after r n is fills (λ ds e. (back widths ds e).1 ∙ sym places) in
+      let parts = back widths after e in
+      (e, parts.1, parts.2)
 
   -- so no two lists are read as one number
   pub one_list : ((widths ds : List ℕ) → scanned widths ≡ made ds → (symbol ds ≡ widths) × (length ds ≡ count) × Below 10 ds) → (widths widths' number : List ℕ) (room room' : ℕ) → number_read (scanned widths) room ≡ made number → number_read (scanned widths') room' ≡ made number → widths ≡ widths'

@@ -100,7 +100,7 @@ pub fn value_of(byte: u8) -> usize
     requires { 48 ≤ byte }
     ensures { result ≡ value_of byte }
 {
-    (byte - b'0') as usize
+    usize::from(byte - b'0')
 }
 
 // The sum of the digits before a check digit, each times its weight.

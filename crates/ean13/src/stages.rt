@@ -22,7 +22,7 @@ impl Numbered<{ Ean13::DIGITS }, { Ean13::WIDTHS }> for Ean13 {
 
     // The first digit chooses the row of the next six, and the last six are the right half.
     fn symbol(digits: &[u8; Ean13::DIGITS]) -> [u8; Ean13::WIDTHS] {
-        let row = rows::row_of(Rows::FirstDigit, digits[0] as usize);
+        let row = rows::row_of(Rows::FirstDigit, usize::from(digits[0]));
         let left = letters::in_sets(row, &digits[1..7]);
         let mut symbol = [0u8; Ean13::WIDTHS];
         drawing::halves(Sets::AOrB, &left, &digits[7..], &mut symbol);

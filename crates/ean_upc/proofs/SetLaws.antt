@@ -1,10 +1,11 @@
 -- The patterns of a half: in every set no two are equal and each has four widths, by computed tests; all of them are among those of A or B, so
--- that the one value that widths can have there is the only one that they can have in any.
-use Prim.Native.Nat.{ℕ, ◌*◌, ◌<◌}
-use mathlib.Core.Path.{◌≡◌, refl, sym, ◌∙◌}
-use mathlib.Core.List.{List, [], ◌++◌}
+-- that the one value that widths can have there is the only one that they can have in any; and a pattern is a row of set A, from ten on backwards.
+use Prim.Native.Nat.{ℕ, ◌+◌, ◌-◌, ◌*◌, ◌<◌, ◌≤◌}
+use mathlib.Core.Path.{◌≡◌, refl, sym, ap, ◌∙◌}
+use mathlib.Core.List.{List, [], ◌++◌, reverse}
 use native.Mathlib.Omega.{arith}
-use lib.ListN.{length, get_or, get_or-append}
+use lib.ListN.{length, get_or, get_or-append, get_or-map}
+use lib.Seq.{get_or-append-add}
 use lib.Dec.{T}
 use Rattle.laws.specs.Below.{Below}
 use Rattle.laws.specs.First.{first_not}
@@ -41,3 +42,12 @@ pub candidate_in : (sets : Sets) (widths : List ℕ) (v : ℕ) → Candidate (se
 candidate_in sets widths v candidate u h is =
     let both = in_both sets u h in
     candidate u both.0 (sym both.1 ∙ is)
+
+pub pattern_below : (sets : Sets) (v : ℕ) → v < length (patterns_of sets) → v < 10 → get_or (patterns_of sets) v [] ≡ get_or set_a v []
+pattern_below sets v h below = (in_both sets v h).1 ∙ get_or-append set_a set_b [] v below
+
+pub pattern_above : (sets : Sets) (v : ℕ) → v < length (patterns_of sets) → 10 ≤ v → get_or (patterns_of sets) v [] ≡ reverse (get_or set_a (v - 10) [])
+pattern_above sets v h above =
+    let back : v ≡ 10 + (v - 10) = omega arith in
+    (in_both sets v h).1 ∙ ap (λ (u : ℕ). get_or (set_a ++ set_b) u []) back
+    ∙ get_or-append-add set_a set_b (v - 10) [] ∙ get_or-map reverse set_a (v - 10) []

@@ -1,4 +1,5 @@
-// Drawing: four widths at a time, each lent on to be written.
+// Drawing: four widths at a time, each lent on to be written. A half is a part of a longer list, so its length is a clause; and that digits are
+// below ten is one too, since what is drawn is defined of lists of numbers.
 ghost use Rattle.std.specs.Prelude.{◌≡◌, ◌++◌, ◌*◌, ◌+◌, length};
 ghost use Rattle.laws.specs.Below.{Below};
 ghost use Rattle.patterns.specs.Patterns.{drawn};
@@ -40,7 +41,7 @@ fn half(sets: Sets, values: &[u8], to: &mut [u8])
 {
     for (i, value) in values.iter().enumerate() {
         let at = CHARACTER * i;
-        let widths = tables::pattern(sets, *value as usize);
+        let widths = tables::pattern(sets, usize::from(*value));
         to[at..at + CHARACTER].copy_from_slice(&widths);
     }
 }

@@ -82,10 +82,11 @@ fn value_of(sets: Sets, widths: &[u8]) -> Option<u8>
     ensures { result ≡ match_in (patterns_of sets) widths.now }
 {
     let value = candidate(widths);
-    if sets.count() <= value as usize {
+    let place = usize::from(value);
+    if sets.count() <= place {
         return None;
     }
-    let pattern = tables::pattern(sets, value as usize);
+    let pattern = tables::pattern(sets, place);
     if patterns::equal(&pattern, widths) {
         Some(value)
     } else {
@@ -100,6 +101,6 @@ fn candidate(widths: &[u8]) -> u8
 {
     let first_two = widths[0] % 4 * 4 + widths[1] % 4;
     let third = widths[2] % 4;
-    let row = CANDIDATES[first_two as usize];
-    row[third as usize]
+    let row = CANDIDATES[usize::from(first_two)];
+    row[usize::from(third)]
 }

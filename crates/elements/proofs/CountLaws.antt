@@ -1,5 +1,5 @@
 -- A message, an element string at a time, as a loop that counts them meets it: the strings passed, and the rule from where it stands.
-use Rattle.std.specs.Prelude.{Result, Ok, Err, Err as NotFound}
+use Rattle.std.specs.Prelude.{Result, Ok, Err}
 use Prim.Native.Nat.{ℕ, suc, ◌+◌, ◌≤◌}
 use mathlib.Core.Path.{◌≡◌, refl, sym, ap, ◌∙◌}
 use mathlib.Core.Bool.{Bool, true, false, cond}
@@ -11,6 +11,7 @@ use Rattle.refusal.specs.declared.Refusal.{Refusal}
 use Rattle.refusal.specs.declared.Refusal.TheVariants.{Repeated}
 use Rattle.refusal.specs.Outcome.{Outcome, made, refused, ◌>>=◌}
 use Rattle.refusal.specs.Fills.{answer_of, answered}
+use Rattle.refusal.proofs.FillsLaws.{made_of_answered}
 use Rattle.elements.specs.declared.Element.{Element}
 use Rattle.laws.specs.Among.{among}
 use Rattle.elements.specs.Strings.{string_at, strings_from}
@@ -29,17 +30,9 @@ counted_more : (n : ℕ) (string : Element) (o : Outcome (List Element)) → cou
 counted_more n string (made strings) = ap Ok (omega arith)
 counted_more n string (refused f) = refl
 
-pub found_string : (o : Outcome Element) (string : Element) → Ok string ≡ answered o → o ≡ made string
-found_string (made s) string e = cc
-found_string (refused f) string e = absurd (let z : ◌≡◌ {A = ℕ} 0 1 = cc in omega arith)
-
-pub found_refused : (o : Outcome Element) (f : Refusal) → NotFound f ≡ answered o → o ≡ refused f
-found_refused (made s) f e = absurd (let z : ◌≡◌ {A = ℕ} 0 1 = cc in omega arith)
-found_refused (refused g) f e = cc
-
 -- a loop that stands at a string which another one follows has a next place, four bytes on or more
 pub found_next : (message : List ℕ) (at : ℕ) (string : Element) → at ≤ length message → Ok string ≡ answered (string_at message at) → string.last ≡ false → (string.next ≤ length message) × (at + 4 ≤ string.next)
-found_next message at string within e goes = next_within message at string within (found_string (string_at message at) string e) goes
+found_next message at string within e goes = next_within message at string within (made_of_answered (string_at message at) string e) goes
 
 module _ (k : ℕ) (message : List ℕ) (place : ℕ) (used : List ℕ) where
   pub from_refused : (f : Refusal) → string_at message place ≡ refused f → strings_from (suc k) message place used ≡ refused f

@@ -16,7 +16,7 @@ mod messages;
 mod strings;
 
 // An element string as it stands in a message: the identifier as a number, where its data begins and how long it is; where the next
-// string must begin, unless this is the last.
+// string must begin, unless this is the last. `next` is no `Option`: the definition `string_at` says it of the last string too.
 #[derive(Clone, Copy)]
 pub struct Element {
     pub identifier: usize,

@@ -13,20 +13,21 @@ use crate::Gs1128;
 use refusal::Refusal;
 
 // The best spelling of a message and its check character: n + 2 characters in all.
-pub fn characters_of(message: &[u8], characters: &mut [u8]) -> usize
+pub fn characters_of(message: &[u8], characters: &mut [u8; Gs1128::WRITTEN_CHARACTERS]) -> usize
     requires message_len_bound { length message.now ≤ 48 }
     requires message_value { first_not is_message_byte message.now ≡ length message.now }
-    requires characters_len { length characters.old ≡ 51 }
     ensures value { result ≡ length (checked (best_spelling message.now)) }
     ensures characters_after { take result characters.new ≡ checked (best_spelling message.now) }
 {
     let count = spelling::spell(message, characters);
-    let check = code128::check::check_of(characters[0] as usize, &characters[1..count]);
+    let check = code128::check::check_of(usize::from(characters[0]), &characters[1..count]);
+    // below 103, so nothing is cut off
     characters[count] = check as u8;
     count + 1
 }
 
-// Draws n + 2 characters and the stop: 6n + 19 widths, if there is room for them.
+// Draws n + 2 characters and the stop: 6n + 19 widths, if there is room for them. That each is below 106 is a clause, since what is drawn is
+// defined of lists of numbers.
 pub fn draw(characters: &[u8], widths: &mut [u8]) -> Result<usize, Refusal>
     requires characters_len_bound { length characters.now ≤ 51 }
     requires below { Below 106 characters.now }
@@ -52,6 +53,6 @@ fn draw_characters(characters: &[u8], to: &mut [u8])
     for (i, character) in characters.iter().enumerate() {
         let at = Gs1128::CHARACTER * i;
         let part = &mut to[at..at + Gs1128::CHARACTER];
-        code128::characters::put_pattern(*character as usize, part);
+        code128::characters::put_pattern(usize::from(*character), part);
     }
 }

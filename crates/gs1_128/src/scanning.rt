@@ -22,7 +22,7 @@ pub fn start_of(widths: &[u8]) -> Result<usize, Refusal>
     if !patterns::equal(&widths[at..], &Gs1128::STOP) {
         return Err(Refusal::Guard);
     }
-    Ok(start as usize)
+    Ok(usize::from(start))
 }
 
 // The values of the characters from the first FNC1 to the check, one to a place. The start is character 0.

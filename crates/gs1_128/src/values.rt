@@ -14,7 +14,7 @@ pub fn judged(start: usize, values: &[u8]) -> Result<usize, Refusal>
     ensures { result ≡ answer_of (judged_values start values.now) }
 {
     let last = values.len() - 1;
-    if values[last] as usize != code128::check::check_of(start, &values[0..last]) {
+    if usize::from(values[last]) != code128::check::check_of(start, &values[0..last]) {
         return Err(Refusal::CheckCharacter);
     }
     if values[0] != Gs1128::FNC1 {

@@ -27,7 +27,7 @@ fn draw_pairs(digits: &[u8; Itf14::DIGITS], to: &mut [u8])
 {
     for i in 0..Itf14::PAIRS {
         let at = Itf14::PAIR * i;
-        let pair = tables::pair(digits[2 * i] as usize, digits[2 * i + 1] as usize);
+        let pair = tables::pair(usize::from(digits[2 * i]), usize::from(digits[2 * i + 1]));
         to[at..at + Itf14::PAIR].copy_from_slice(&pair);
     }
 }

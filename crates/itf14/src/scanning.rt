@@ -1,4 +1,4 @@
-// What widths hold: the value of each pair between the start and the stop.
+// What widths hold: the value of each pair between the start and the stop. Ten widths are a part of a longer list, so their count is a clause.
 ghost use Rattle.std.specs.Prelude.{◌≡◌, ◌*◌, ◌≤◌, ◌<◌, length};
 ghost use Rattle.refusal.specs.Fills.{FillsOwn};
 ghost use Rattle.patterns.specs.Matching.{match_in};
@@ -49,6 +49,7 @@ fn pair_value(widths: &[u8]) -> Option<u8>
     let second = candidate(widths, 1);
     let pattern = tables::pair(first, second);
     if patterns::equal(&pattern, widths) {
+        // two digits, so nothing is cut off
         Some((10 * first + second) as u8)
     } else {
         None

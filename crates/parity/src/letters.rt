@@ -1,4 +1,5 @@
-// Letters: which of sets A and B a digit is in. Its value in both is the digit, or ten more in set B.
+// Letters: which of sets A and B a digit is in. Its value in both is the digit, or ten more in set B: ten times the letter more, so a letter is
+// a number and no case of an enum.
 ghost use Rattle.std.specs.Prelude.{◌≡◌, map, ◌/◌, ◌%◌, length};
 ghost use Rattle.laws.specs.Below.{Below};
 ghost use Rattle.parity.specs.Letters.{in_sets};

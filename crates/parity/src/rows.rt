@@ -71,7 +71,7 @@ pub fn digit_of(rows: Rows, values: &[u8]) -> Option<u8>
 {
     let letters = letters::letters_of(values);
     let digit = candidate(letters);
-    let row = row_of(rows, digit as usize);
+    let row = row_of(rows, usize::from(digit));
     if patterns::equal(&row, &letters) {
         Some(digit)
     } else {
@@ -87,6 +87,6 @@ fn candidate(letters: [u8; 6]) -> u8
 {
     let first_three = letters[0] % 2 * 4 + letters[1] % 2 * 2 + letters[2] % 2;
     let last_three = letters[3] % 2 * 4 + letters[4] % 2 * 2 + letters[5] % 2;
-    let row = DIGITS[first_three as usize];
-    row[last_three as usize]
+    let row = DIGITS[usize::from(first_three)];
+    row[usize::from(last_three)]
 }

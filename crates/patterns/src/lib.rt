@@ -4,7 +4,7 @@
 ghost use Rattle.std.specs.Prelude.{◌≡◌};
 ghost use Rattle.patterns.specs.Patterns.{same};
 
-// Whether widths are those of a pattern.
+// Whether widths are those of a pattern. A function of its own, since every table's rule is in the terms of `same`.
 pub fn equal(widths: &[u8], pattern: &[u8]) -> bool
     ensures { result ≡ same widths.now pattern.now }
 {

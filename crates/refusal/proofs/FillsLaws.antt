@@ -2,15 +2,15 @@
 use Rattle.std.specs.Prelude.{Result, Ok, Err}
 use Prim.Native.Nat.{ℕ, ◌≤◌, ◌<◌}
 use mathlib.Core.Path.{◌≡◌, refl, sym, ap, ◌∙◌, subst}
-use mathlib.Core.List.{List, ◌++◌, append-nil}
+use mathlib.Core.List.{List}
 use native.Mathlib.Omega.{arith}
-use lib.ListN.{length, drop, drop_of_length-le, length-append, length-drop}
+use lib.ListN.{length, drop, length-append, length-drop}
 use lib.Dec.{leb}
 use borrow.Author.Tests.{le-leb, lt-leb, leb-true}
 use Rattle.refusal.specs.declared.Refusal.{Refusal}
 use Rattle.refusal.specs.declared.Refusal.TheVariants.{Room}
 use Rattle.refusal.specs.Outcome.{Outcome, made, refused}
-use Rattle.refusal.specs.Fills.{answered, answer_of, laid, Fills, laying}
+use Rattle.refusal.specs.Fills.{answered, answer_of, Fills, laying}
 use Rattle.refusal.proofs.OutcomeLaws.{must_made, made_same}
 
 -- an answer that is a value
@@ -45,14 +45,6 @@ module _ {A : Type 0} where
 
   pub laying_made : (xs : List A) (room : ℕ) → length xs ≤ room → laying xs room ≡ made xs
   laying_made xs room h = simp (le-leb (length xs) room h)
-
-  -- a list that is laid in as many places fills them all
-  pub laid_whole : (xs to after : List A) (r : Result ℕ Refusal) → Fills (laying xs (length to)) to r after → length to ≡ length xs → after ≡ xs
-  laid_whole xs to after r fills e =
-      fills.lent
-      ∙ ap (λ (o : Outcome (List A)). laid o to) (laying_made xs (length to) (omega arith))
-      ∙ ap (λ (rest : List A). xs ++ rest) (drop_of_length-le to {i = length xs} (omega arith))
-      ∙ append-nil xs
 
   pub laying_refused : (xs : List A) (room : ℕ) → room < length xs → laying xs room ≡ refused Room
   laying_refused xs room h = simp (lt-leb (length xs) room h)

@@ -21,6 +21,7 @@ pub fn answer_lines<A: Answerer>(block: &[u8], from: usize, out: &mut [u8]) -> P
     let mut next = from;
     let mut put = 0;
     let mut end = lines::line_end(block, from);
+    // No `for`: it stops where the room doesn't do for another answer, and the lines differ in length.
     while end < block.len() && A::LONGEST <= out.len() - put {
         put += A::answer(&block[next..end], &mut out[put..]);
         next = end + 1;

@@ -5,10 +5,10 @@
 
 ghost use Rattle.std.specs.Prelude.{ℕ, ◌≡◌, ◌≤◌, ◌<◌, List, IfSome, length, take, drop};
 ghost use Rattle.text.specs.Puts.{Puts};
-ghost use Rattle.blocks.specs.Blocks.{filled};
+ghost use Rattle.blocks.specs.Blocks.{filled, IfBlock};
 ghost use Rattle.serving.specs.Block.{IsLine, Cut, Held};
 
-use blocks::Block;
+use blocks::{Block, Taken};
 
 mod block;
 
@@ -41,9 +41,17 @@ pub fn serve<A: Answerer>(rt: &(impl Input + Print + Eprint), input: &mut [u8], 
     requires in_bounds { A.OVER < length input.old }
     requires longest_answer_in_bounds { A.LONGEST ≤ length output.old }
 {
-    let mut block = blocks::first(rt, input);
-    while 0 < block.left {
-        block = take_block::<A>(rt, block, input, output);
+    let mut taken = blocks::first(rt, input);
+    // A proved loop has to end, and nothing says that the input does, so blocks are counted, up to a number that no run comes to.
+    for _ in 0..u64::MAX {
+        taken = match taken {
+            Taken::More(block) => take_block::<A>(rt, block, input, output),
+            Taken::Last(block) => {
+                answer_block::<A>(rt, &input[..block.held + block.more], output);
+                return;
+            }
+            Taken::End => return,
+        };
     }
 }
 
@@ -54,16 +62,16 @@ fn take_block<A: Answerer>(
     block: Block,
     input: &mut [u8],
     output: &mut [u8],
-) -> Block
-    requires left_nonzero { (0 < block.left) × (filled block ≤ length input.old) }
+) -> Taken
+    requires block_in_bounds { filled block ≤ length input.old }
     requires in_bounds { A.OVER < length input.old }
     requires longest_answer_in_bounds { A.LONGEST ≤ length output.old }
-    ensures held { 0 < result.left → Held A.OVER (take (filled block) input.old) result.held input.new }
-    ensures result_in_bounds { (filled result ≤ length input.old) × (result.left < block.left) }
+    ensures held { IfBlock result (λ after. Held A.OVER (take (filled block) input.old) after.held input.new) }
+    ensures result_in_bounds { IfBlock result (λ after. filled after ≤ length input.old) }
 {
     let end = block.held + block.more;
     let Some(start) = answer_block::<A>(rt, &input[..end], output) else {
-        return blocks::none();
+        return Taken::End;
     };
     blocks::next(rt, input, block, start, A::OVER)
 }
@@ -80,6 +88,7 @@ fn answer_block<A: Answerer>(
     ensures start_in_bounds { IfSome result (λ start. (start ≤ length block.now) × IsLine (drop start block.now)) }
 {
     let mut done = block::answer_lines::<A>(block, 0, output);
+    // No `for`: how many lines one write takes, their answers tell.
     while 0 < done.put {
         if !blocks::write_out(rt, &output[..done.put]) {
             return None;

@@ -13,7 +13,8 @@ use character_set_82::SEPARATOR;
 const FNC1: u8 = 102;
 
 // The states below STAYS are those of a byte that is spelled in B, those from IN_C on of one that is spelled in C, and between them the
-// set that is on stays on. Each of these begins with the state of a separator; IN_B is that of any other byte too.
+// set that is on stays on. They are numbers, since two tables are read by them. Each of these begins with the state of a separator; IN_B is that
+// of any other byte too.
 const IN_B: u8 = 0;
 
 const STAYS: u8 = 4;
@@ -62,7 +63,7 @@ fn starts_in_c(state: u8) -> bool
     requires { state < 16 }
     ensures { result ≡ starts_in_c state }
 {
-    AT_SEPARATOR[state as usize] == IN_C
+    AT_SEPARATOR[usize::from(state)] == IN_C
 }
 
 fn start_of(c: bool) -> u8
@@ -91,15 +92,16 @@ fn state_at(byte: u8, past: u8) -> u8
     ensures { result ≡ state_at byte past }
 {
     if digits::is_digit(byte) {
-        AT_DIGIT[past as usize]
+        AT_DIGIT[usize::from(past)]
     } else if byte == SEPARATOR {
-        AT_SEPARATOR[past as usize]
+        AT_SEPARATOR[usize::from(past)]
     } else {
         IN_B
     }
 }
 
-// The value at a place, in the set that is on, by the state there.
+// The value at a place, in the set that is on, by the state there. What is known of message, place and state is said here and of both steps: a
+// struct that holds it would be made in `spell` alone.
 fn step_from(message: &[u8], state: u8, c: bool, at: usize) -> Step
     requires at_in_bounds { at < length message.now }
     requires message_value { first_not is_message_byte message.now ≡ length message.now }

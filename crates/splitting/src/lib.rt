@@ -24,11 +24,13 @@ impl Record {
         begin: 0,
         length: 0,
     };
+}
 
-    // The one place that makes a record of an element string.
-    fn of(element: Element) -> Self
-        ensures { result ≡ record_of element }
-    {
+// The one place that makes a record of an element string.
+impl From<Element> for Record {
+    ghost from_gives = { λ element r. r ≡ record_of element };
+
+    fn from(element: Element) -> Self {
         Self {
             identifier: element.identifier,
             begin: element.begin,
@@ -56,7 +58,7 @@ pub fn split(message: &[u8], records: &mut [Record]) -> Result<usize, Refusal>
     // The test has passed, so no string is refused here and every record is written.
     for record in records[..count].iter_mut() {
         let element = elements::string_at(message, at)?;
-        *record = Record::of(element);
+        *record = Record::from(element);
         at = element.next;
     }
     Ok(count)

@@ -8,19 +8,11 @@ use lib.ListN.{length}
 use native.Mathlib.Omega.{arith}
 use Rattle.refusal.specs.declared.Refusal.{Refusal}
 use Rattle.refusal.specs.Outcome.{Outcome, made, refused, ◌>>=◌}
-use Rattle.refusal.specs.Fills.{Fills, answered}
+use Rattle.refusal.specs.Fills.{Fills}
 use Rattle.symbols.specs.declared.Kind.{Kind}
 use Rattle.symbols.specs.Kinds.{kind_of, reads_as}
 use Rattle.symbols.specs.Readings.{reads, FillsNamed}
 use Rattle.symbols.proofs.Theorems.{read_as_named, refused_if_unnamed}
-
-pub made_of_named : (o : Outcome Kind) (kind : Kind) → Ok kind ≡ answered o → o ≡ made kind
-made_of_named (made k) kind e = cc
-made_of_named (refused f) kind e = absurd (let z : ◌≡◌ {A = ℕ} 0 1 = cc in omega arith)
-
-pub refused_of_named : (o : Outcome Kind) (f : Refusal) → Err f ≡ answered o → o ≡ refused f
-refused_of_named (made k) f e = absurd (let z : ◌≡◌ {A = ℕ} 0 1 = cc in omega arith)
-refused_of_named (refused g) f e = cc
 
 module _ (widths : List ℕ) (room : ℕ) (before : List ℕ) where
   pub named_refused : (f : Refusal) → kind_of widths ≡ refused f → FillsNamed (reads widths room) before (Err f) before

@@ -57,7 +57,7 @@ pub fn kind_of(widths: &[u8]) -> Result<Kind, Refusal>
     Ok(Kind::Gs1128)
 }
 
-// Reads a symbol of a named kind.
+// Reads a symbol of a named kind. The kinds are closed and each has its rule, so a `match` says which.
 pub fn read_as(kind: Kind, widths: &[u8], bytes: &mut [u8]) -> Result<usize, Refusal>
     ensures { Fills (reads_as kind widths.now (length bytes.old)) bytes.old result bytes.new }
 {

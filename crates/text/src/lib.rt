@@ -1,4 +1,5 @@
-// Text, as it is typed and printed: numbers, widths and messages.
+// Text, as it is typed and printed: numbers, widths and messages. No memory is made: what is written stands at the front of what is lent, and its
+// count is the answer.
 #![tactic(auto)]
 
 mod typed;
@@ -79,7 +80,7 @@ pub fn capped_in(bytes: &[u8], cap: usize) -> Option<usize>
     Some(value)
 }
 
-// The digits of its tenth part, and then the last one.
+// The digits of its tenth part, and then the last one: what `decimal_of` says. `write!` would need a writer over what is lent.
 fn put_digits(n: usize, out: &mut [u8]) -> usize
     requires { length (decimal_of n) ≤ length out.old }
     ensures { Puts (decimal_of n) out.old result out.new }
@@ -97,5 +98,6 @@ fn put_digits(n: usize, out: &mut [u8]) -> usize
 fn last_of(n: usize) -> u8
     ensures { result ≡ last_of n }
 {
+    // one digit, so nothing is cut off
     b'0' + (n % 10) as u8
 }

@@ -50,6 +50,7 @@ fn numbers_in(typed: &[u8], widths: &mut [u8]) -> Option<usize>
     let mut count = 0;
     for word in typed.split(|byte| *byte == b' ') {
         let width = crate::number_in(word, 255)?;
+        // at most 255, so nothing is cut off
         widths[count] = width as u8;
         count += 1;
     }

@@ -10,7 +10,7 @@ mod stages;
 
 use refusal::Refusal;
 
-// The calls on UPC-E symbols.
+// The calls on UPC-E symbols. They are none of `digits::numbered`: a short number stands in the middle, and a refusal of its own between 3 and 12.
 #[derive(Clone, Copy)]
 pub struct UpcE;
 

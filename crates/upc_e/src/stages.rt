@@ -25,7 +25,7 @@ pub(crate) fn symbol(short: &[u8; SHORT]) -> [u8; UpcE::WIDTHS]
     requires { Below 10 short.now }
     ensures { result ≡ symbol short.now }
 {
-    let row = rows::row_of(Rows::CheckDigit, short[PRINTED] as usize);
+    let row = rows::row_of(Rows::CheckDigit, usize::from(short[PRINTED]));
     let values = letters::in_sets(row, &short[..PRINTED]);
     let mut symbol = [0u8; UpcE::WIDTHS];
     drawing::guarded_half(&tables::GUARD, Sets::AOrB, &values, &mut symbol[..END]);

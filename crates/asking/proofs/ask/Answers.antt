@@ -5,8 +5,8 @@ use native.Mathlib.Nat.{add-sub_cancel_left}
 use native.Mathlib.Omega.{arith}
 use lib.ListN.{length, take, drop}
 use Rattle.refusal.specs.Outcome.{made}
+use Rattle.refusal.proofs.FillsLaws.{refused_of_answered, made_of_answered}
 use Rattle.asking.specs.Asking.{asked, part_of}
-use Rattle.elements.proofs.CountLaws.{found_string, found_refused}
 use Rattle.asking.proofs.AskLaws.{asked_stands, part_within}
 use Rattle.asking.proofs.ask.Goals.{In-Ok}
 use Rattle.asking.proofs.ask.Goals as goal
@@ -15,14 +15,14 @@ pub returns-in_default : goal.returns-in_default
 returns-in_default c =
     let message = c.args.message.now in
     let x = c.args.identifier in
-    sym (ap (part_of message) (found_refused (asked message x) _ (sym c.in_default.is ∙ c.find.ensures)))
+    sym (ap (part_of message) (refused_of_answered (asked message x) _ (sym c.in_default.is ∙ c.find.ensures)))
 
 is-asked : (c : In-Ok) → asked c.args.message.now c.args.identifier ≡ made c.in-Ok.element
 is-asked c =
     let message = c.args.message.now in
     let x = c.args.identifier in
     let string = c.in-Ok.element in
-    found_string (asked message x) string (sym c.in-Ok.is ∙ c.find.ensures)
+    made_of_answered (asked message x) string (sym c.in-Ok.is ∙ c.find.ensures)
 
 inside : (c : In-Ok) → c.in-Ok.element.begin + c.in-Ok.element.length ≤ length c.args.message.now
 inside c =

@@ -6,11 +6,10 @@ use borrow.Author.Tests.{eq-eqb, ne_eqb}
 use Rattle.laws.proofs.Results.{passed_on}
 use Rattle.refusal.specs.Fills.{answered}
 use Rattle.refusal.specs.Outcome.{Outcome, made, ◌>>=◌}
-use Rattle.refusal.proofs.FillsLaws.{refused_of_answer, made_of_answer}
+use Rattle.refusal.proofs.FillsLaws.{refused_of_answer, made_of_answer, refused_of_answered, made_of_answered}
 use Rattle.elements.specs.declared.Element.{Element}
 use Rattle.elements.specs.Strings.{parsed, tested}
 use Rattle.elements.specs.Found.{sought}
-use Rattle.elements.proofs.CountLaws.{found_string, found_refused}
 use Rattle.elements.proofs.FromRule.{tested_made}
 use Rattle.asking.specs.Asking.{asked}
 use Rattle.asking.proofs.AskLaws.{checked, asked_refused, asked_sought}
@@ -39,16 +38,16 @@ returns-in_err-element c =
     let there = (goal.at.returns-in_err-element c).After-sought in
     let strings = right there in
     passed_on _ _ c.from_residual-in_err-element.ensures.1
-    ∙ sym (comes-to there _ (found_refused _ _ (c.in_err-element.ensures strings.0 strings.2)))
+    ∙ sym (comes-to there _ (refused_of_answered _ _ (c.in_err-element.ensures strings.0 strings.2)))
 
 pub returns-then-element-identifier : goal.returns-then-element-identifier
 returns-then-element-identifier c =
     let there = (goal.at.returns-then-element-identifier c).After-sought in
     let strings = right there in
-    sym (comes-to there _ (found_string _ _ (c.in_ok-element.ensures strings.0 strings.2)) ∙ rw (ne_eqb _ _ c.if-element-identifier.true))
+    sym (comes-to there _ (made_of_answered _ _ (c.in_ok-element.ensures strings.0 strings.2)) ∙ rw (ne_eqb _ _ c.if-element-identifier.true))
 
 pub returns : goal.returns
 returns c =
     let there = (goal.at.returns c).After-sought in
     let strings = right there in
-    sym (comes-to there _ (found_string _ _ (c.in_ok-element.ensures strings.0 strings.2)) ∙ rw (eq-eqb _ _ c.if-element-identifier.false))
+    sym (comes-to there _ (made_of_answered _ _ (c.in_ok-element.ensures strings.0 strings.2)) ∙ rw (eq-eqb _ _ c.if-element-identifier.false))

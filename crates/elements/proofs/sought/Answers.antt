@@ -5,8 +5,9 @@ use mathlib.Core.List.{[]}
 use native.Mathlib.Omega.{arith}
 use Rattle.refusal.specs.Fills.{answered}
 use Rattle.refusal.specs.Outcome.{made}
+use Rattle.refusal.proofs.FillsLaws.{refused_of_answered, made_of_answered}
 use Rattle.elements.specs.Strings.{string_at}
-use Rattle.elements.proofs.CountLaws.{found_string, found_refused, found_next}
+use Rattle.elements.proofs.CountLaws.{found_next}
 use Rattle.elements.proofs.WalkLaws.{from_start, never_refused, left_here, left_last, left_more}
 use Rattle.elements.proofs.sought.Goals.{In_ok-element, then-element-identifier-via-then-element-identifier, then-element-identifier-via-else-element-identifier+then-element}
 use Rattle.elements.proofs.sought.Goals as goal
@@ -19,12 +20,12 @@ pub returns-in_err-element : goal.returns-in_err-element
 returns-in_err-element c =
     let message = c.args.message.now in
     let at = c.loop-element.at in
-    let here = found_refused (string_at message at) _ c.in_err-element.ensures in
+    let here = refused_of_answered (string_at message at) _ c.in_err-element.ensures in
     λ strings e. absurd (never_refused message c.args.identifier at strings (c.loop-element.invariant.1 strings e) _ here)
 
 here : (c : In_ok-element) → string_at c.args.message.now c.loop-element.at ≡ made c.in_ok-element.element
 here c =
-    found_string (string_at c.args.message.now c.loop-element.at) c.in_ok-element.element c.in_ok-element.ensures
+    made_of_answered (string_at c.args.message.now c.loop-element.at) c.in_ok-element.element c.in_ok-element.ensures
 
 pub returns-then-element-identifier : goal.returns-then-element-identifier
 returns-then-element-identifier c =

@@ -5,4 +5,4 @@ use Rattle.spelling.proofs.starts_in_c.Goals as goal
 
 pub returns : goal.returns
 unfolding starts_in_c
-returns c = refl
+returns c = rw c.from.ensures refl

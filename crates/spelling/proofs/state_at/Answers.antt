@@ -9,7 +9,7 @@ pub returns-then-is_digit : goal.returns-then-is_digit
 unfolding state_at
 returns-then-is_digit c =
     let is : is_digit c.args.byte ≡ true = sym c.is_digit.ensures ∙ c.if-is_digit.true in
-    rw is
+    rw (is, c.from.ensures)
 
 other : (c : Else-is_digit) → is_digit c.args.byte ≡ false
 other c = sym c.is_digit.ensures ∙ c.if-is_digit.false
@@ -17,7 +17,7 @@ other c = sym c.is_digit.ensures ∙ c.if-is_digit.false
 pub returns-then-byte-eq-SEPARATOR : goal.returns-then-byte-eq-SEPARATOR
 unfolding state_at
 returns-then-byte-eq-SEPARATOR c =
-    rw (other (goal.at.returns-then-byte-eq-SEPARATOR c).Else-is_digit, eq-eqb c.args.byte 29 c.if-byte-eq-SEPARATOR.true)
+    rw (other (goal.at.returns-then-byte-eq-SEPARATOR c).Else-is_digit, eq-eqb c.args.byte 29 c.if-byte-eq-SEPARATOR.true, c.from-then-byte-eq-SEPARATOR.ensures)
 
 pub returns-else-byte-eq-SEPARATOR : goal.returns-else-byte-eq-SEPARATOR
 unfolding state_at

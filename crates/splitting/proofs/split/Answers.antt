@@ -7,10 +7,9 @@ use Rattle.laws.proofs.Results.{passed_on}
 use Rattle.refusal.specs.Outcome.{made}
 use Rattle.refusal.specs.declared.Refusal.TheVariants.{Room}
 use Rattle.refusal.proofs.OutcomeLaws.{made_same}
-use Rattle.refusal.proofs.FillsLaws.{refused_of_answer, made_of_answer, fills_refused, fills_passed}
+use Rattle.refusal.proofs.FillsLaws.{refused_of_answer, made_of_answer, fills_refused, fills_passed, refused_of_answered, made_of_answered}
 use Rattle.elements.specs.declared.Element.{Element}
 use Rattle.elements.specs.Strings.{string_at, tested}
-use Rattle.elements.proofs.CountLaws.{found_string, found_refused}
 use Rattle.splitting.specs.declared.Record.{Record}
 use Rattle.splitting.specs.Splitting.{record_of}
 use Rattle.splitting.proofs.SplitLaws.{turn_first, turn_found, turn_next, turn_last, splits_refused, splits_short, splits_enough}
@@ -41,7 +40,7 @@ returns-in_err-element c =
     let message = c.args.message.now in
     let a = right (goal.at.returns-in_err-element c).In_ok-count in
     let lent = length-take-le c.in_ok-count.count c.args.records.now c.if-records-count.false in
-    let none = found_refused (string_at message c.loop-record.at) _ c.in_err-element.ensures in
+    let none = refused_of_answered (string_at message c.loop-record.at) _ c.in_err-element.ensures in
     absurd (turn_found message _ a.0 _ _ _ (c.loop-record.invariant a.0 a.1) (omega (arith, a.2, c.loop-record-test.true)) _ none)
 
 pub loop-record-preserved : goal.loop-record-preserved
@@ -50,10 +49,10 @@ loop-record-preserved c =
     let a = right (goal.at.loop-record-preserved c).In_ok-count in
     let lent = length-take-le c.in_ok-count.count c.args.records.now c.if-records-count.false in
     let string = c.in_ok-element.element in
-    let here = found_string (string_at message c.loop-record.at) string c.in_ok-element.ensures in
+    let here = made_of_answered (string_at message c.loop-record.at) string c.in_ok-element.ensures in
     λ strings e.
     let more : c.loop-record.record-index < length strings = omega (arith, ap length (made_same a.0 strings (sym a.1 ∙ e)), a.2, c.loop-record-test.true) in
-    rw c.of.ensures (turn_next message _ strings _ _ _ (c.loop-record.invariant strings e) more string here (omega (arith, c.loop-record-test.true)))
+    rw c.from.ensures (turn_next message _ strings _ _ _ (c.loop-record.invariant strings e) more string here (omega (arith, c.loop-record-test.true)))
 
 pub returns : goal.returns
 returns c =

@@ -11,11 +11,11 @@ use Rattle.laws.proofs.Results.{passed_on}
 use Rattle.refusal.specs.Outcome.{Outcome, made, ◌>>=◌}
 use Rattle.refusal.specs.Fills.{answer_of}
 use Rattle.refusal.proofs.OutcomeLaws.{made_same}
+use Rattle.refusal.proofs.FillsLaws.{refused_of_answered, made_of_answered}
 use Rattle.elements.specs.declared.Element.{Element}
 use Rattle.elements.specs.Strings.{parsed}
 use Rattle.elements.specs.Found.{sought}
 use Rattle.laws.proofs.AmongLaws.{among_of_nil}
-use Rattle.elements.proofs.CountLaws.{found_string, found_refused}
 use Rattle.elements.proofs.FromRule.{tested_made}
 use Rattle.adding.specs.Adding.{sofar, unused_in}
 use Rattle.adding.proofs.AddLaws.{sofar_none, sofar_tested, after, unused_sought}
@@ -49,14 +49,14 @@ comes-to c strings e o is =
 pub returns-in_err-element : goal.returns-in_err-element
 returns-in_err-element c =
     let there = (goal.at.returns-in_err-element c).After-sought in
-    λ strings e. passed_on _ _ c.from_residual.ensures.1 ∙ sym (comes-to there strings e _ (found_refused _ _ (c.in_err-element.ensures strings (right there strings e))))
+    λ strings e. passed_on _ _ c.from_residual.ensures.1 ∙ sym (comes-to there strings e _ (refused_of_answered _ _ (c.in_err-element.ensures strings (right there strings e))))
 
 pub returns-then-element-identifier : goal.returns-then-element-identifier
 returns-then-element-identifier c =
     let there = (goal.at.returns-then-element-identifier c).After-sought in
-    λ strings e. sym (comes-to there strings e _ (found_string _ _ (c.in_ok-element.ensures strings (right there strings e))) ∙ rw (eq-eqb _ _ c.if-element-identifier.true))
+    λ strings e. sym (comes-to there strings e _ (made_of_answered _ _ (c.in_ok-element.ensures strings (right there strings e))) ∙ rw (eq-eqb _ _ c.if-element-identifier.true))
 
 pub returns : goal.returns
 returns c =
     let there = (goal.at.returns c).After-sought in
-    λ strings e. ap Ok c.closing_after.ensures ∙ sym (comes-to there strings e _ (found_string _ _ (c.in_ok-element.ensures strings (right there strings e))) ∙ rw (ne_eqb _ _ c.if-element-identifier.false))
+    λ strings e. ap Ok c.closing_after.ensures ∙ sym (comes-to there strings e _ (made_of_answered _ _ (c.in_ok-element.ensures strings (right there strings e))) ∙ rw (ne_eqb _ _ c.if-element-identifier.false))

@@ -13,6 +13,6 @@ pub loop-i-preserved : goal.loop-i-preserved
 loop-i-preserved c =
     let patterns = patterns_of c.args.sets in (
       omega arith,
-      rw (c.copy_from_slice.ensures.after, c.pattern-widths.ensures)
+      rw (c.copy_from_slice.ensures.after, c.pattern-widths.ensures, c.from.ensures)
           (draw_goes patterns 4 c.args.values.now c.args.to.now (sized_sets c.args.sets) c.requires.below c.loop-i.i c.loop-i.to (omega arith) c.loop-i.invariant.1),
     )

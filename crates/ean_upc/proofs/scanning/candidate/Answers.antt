@@ -33,4 +33,4 @@ look widths = get_or (get_or candidates (get_or widths 0 0 % 4 * 4 + get_or widt
 pub returns : goal.returns
 unfolding candidates look
 returns c =
-    one_candidate look (set_a ++ set_b) tt _
+    rw (c.from.ensures, c.from-2.ensures) (one_candidate look (set_a ++ set_b) tt _)

@@ -16,12 +16,12 @@ only c =
     let value = c.candidate-value.result in
     candidate_in sets widths value c.candidate-value.ensures
 
-pub returns-then-count-value : goal.returns-then-count-value
-returns-then-count-value c =
+pub returns-then-count-place : goal.returns-then-count-place
+returns-then-count-place c =
     let sets = c.args.sets in
     let widths = c.args.widths.now in
     let value = c.candidate-value.result in
-    match_none (patterns_of sets) widths value (only (goal.at.returns-then-count-value c).After-candidate-value) (λ h is. omega (arith, c.count.ensures))
+    match_none (patterns_of sets) widths value (only (goal.at.returns-then-count-place c).After-candidate-value) (λ h is. omega (arith, c.count.ensures))
 
 pub returns-then-equal : goal.returns-then-equal
 returns-then-equal c =
@@ -29,7 +29,7 @@ returns-then-equal c =
     let widths = c.args.widths.now in
     let value = c.candidate-value.result in
     match_found (patterns_of sets) widths value (distinct_sets sets) (omega arith)
-    (sym c.pattern-pattern.ensures ∙ same_true _ widths (sym c.equal.ensures ∙ c.if-equal.true))
+    (sym (rw c.from-place.ensures at c.pattern-pattern.ensures) ∙ same_true _ widths (sym c.equal.ensures ∙ c.if-equal.true))
 
 pub returns-else-equal : goal.returns-else-equal
 returns-else-equal c =
@@ -37,4 +37,4 @@ returns-else-equal c =
     let widths = c.args.widths.now in
     let value = c.candidate-value.result in
     match_none (patterns_of sets) widths value (only (goal.at.returns-else-equal c).After-candidate-value)
-    (λ h is. same_false _ widths (sym c.equal.ensures ∙ c.if-equal.false) (c.pattern-pattern.ensures ∙ is))
+    (λ h is. same_false _ widths (sym c.equal.ensures ∙ c.if-equal.false) (c.pattern-pattern.ensures ∙ rw c.from-place.ensures is))

@@ -11,11 +11,12 @@ use lib.ListN.{length, take, set, length-set}
 use lib.Seq.{take-suc-set}
 use Rattle.refusal.specs.Outcome.{made}
 use Rattle.refusal.specs.Fills.{answer_of}
+use Rattle.refusal.proofs.FillsLaws.{refused_of_answered, made_of_answered}
 use Rattle.laws.specs.Among.{among}
 use Rattle.laws.proofs.AmongLaws.{any_among}
 use Rattle.laws.proofs.Results.{passed_on}
 use Rattle.elements.specs.Strings.{string_at, strings_from, parsed}
-use Rattle.elements.proofs.CountLaws.{counted, counted_none, found_string, found_refused, found_next, from_refused, from_repeated, from_last, from_more}
+use Rattle.elements.proofs.CountLaws.{counted, counted_none, found_next, from_refused, from_repeated, from_last, from_more}
 use Rattle.elements.proofs.messages.count.Goals.{At-loop-element, After-contains, In_ok-element}
 use Rattle.elements.proofs.messages.count.Goals as goal
 
@@ -43,13 +44,13 @@ returns-in_err-element c =
     let count = c.loop-element.count in
     let names = take count c.loop-element.used in
     let f = c.in_err-element.field-0.0 in
-    let here = found_refused (string_at message at) f c.in_err-element.ensures in
+    let here = refused_of_answered (string_at message at) f c.in_err-element.ensures in
     passed_on _ f c.from_residual.ensures.1
     ∙ sym (so_far (goal.at.returns-in_err-element c).At-loop-element ∙ ap (counted count) (from_refused (length message - count) message at names f here))
 
 here : (c : In_ok-element) → string_at c.args.message.now c.loop-element.at ≡ made c.in_ok-element.element
 here c =
-    found_string (string_at c.args.message.now c.loop-element.at) c.in_ok-element.element c.in_ok-element.ensures
+    made_of_answered (string_at c.args.message.now c.loop-element.at) c.in_ok-element.element c.in_ok-element.ensures
 
 next : (c : In_ok-element) → c.in_ok-element.element.last ≡ false → (c.in_ok-element.element.next ≤ length c.args.message.now) × (c.loop-element.at + 4 ≤ c.in_ok-element.element.next)
 next c goes =

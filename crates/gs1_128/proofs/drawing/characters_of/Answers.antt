@@ -38,7 +38,7 @@ few c =
 
 long : (c : After-spell-count) → length c.spell-count.new.values ≡ 51
 long c =
-    c.spell-count.auto.values ∙ c.requires.characters_len
+    omega (arith, c.spell-count.auto.values)
 
 start_is : (c : After-spell-count) → get_or c.spell-count.new.values 0 0 ≡ (spelled c).start
 start_is c =
@@ -69,11 +69,6 @@ added c check e =
     check_added list (spelled c).start (102 ∷ (spelled c).values) behind (is c) count (counts c) check e (omega (arith, (few c), (long c)))
     ∙ ap checked (sym (spelled c).is)
 
-pub overflow_cast-characters : goal.overflow_cast-characters
-overflow_cast-characters c =
-    let there = (goal.at.overflow_cast-characters c).After-spell-count in
-    omega (arith, start_is there, (spelled there).most)
-
 pub slice_bounds-check_of-count : goal.slice_bounds-check_of-count
 slice_bounds-check_of-count c =
     omega (arith, counts (goal.at.slice_bounds-check_of-count c).After-spell-count)
@@ -90,13 +85,13 @@ slice_bounds-check_of-end c =
 pub check_of-check-requires : goal.check_of-check-requires
 check_of-check-requires c =
     let there = (goal.at.check_of-check-requires c).After-spell-count in
-    record { start_bound = rw (start_is there) (omega (arith, (spelled there).most)); values_len_bound = rw (rest-is there) (omega (arith, counts there, few there)) }
+    record { start_bound = rw (c.from.ensures, start_is there) (omega (arith, (spelled there).most)); values_len_bound = rw (rest-is there) (omega (arith, counts there, few there)) }
 
-pub overflow_cast-characters-2 : goal.overflow_cast-characters-2
-overflow_cast-characters-2 c =
+pub overflow_cast-characters : goal.overflow_cast-characters
+overflow_cast-characters c =
     let list = c.spell-count.new.values in
     let count = c.spell-count.result in
-    omega (arith, c.check_of-check.ensures, check_below (get_or list 0 0) (take (count - 1) (drop 1 list)))
+    omega (arith, c.check_of-check.ensures, check_below c.from.result (take (count - 1) (drop 1 list)))
 
 pub bounds-characters-count : goal.bounds-characters-count
 bounds-characters-count c =
@@ -110,4 +105,4 @@ overflow_add-result c =
 pub returns : goal.returns
 returns c =
     let there = (goal.at.returns c).After-spell-count in
-    record { value = sym (length-is there); characters_after = added there c.check_of-check.result c.check_of-check.ensures }
+    record { value = sym (length-is there); characters_after = added there c.check_of-check.result (rw c.from.ensures at c.check_of-check.ensures) }

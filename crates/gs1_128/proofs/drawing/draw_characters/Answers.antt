@@ -11,5 +11,5 @@ loop-i-init c = draw_begins patterns 6 c.args.characters.now c.args.to.now
 
 pub loop-i-preserved : goal.loop-i-preserved
 loop-i-preserved c =
-    rw c.put_pattern.ensures
+    rw (c.put_pattern.ensures, c.from.ensures)
     (draw_goes patterns 6 c.args.characters.now c.args.to.now patterns_sized (rw patterns_are c.requires.below) c.loop-i.i c.loop-i.to (omega arith) c.loop-i.invariant)

@@ -75,4 +75,4 @@ pub returns : goal.returns
 returns c =
     let at = goal.at.returns c in
     let start = start-is c.args.widths.now c.in_ok-start.start (found at.In_ok-start) c.if-start-lt-LEAST_START.false in
-    sym (ap answered (both-there c.args.widths.now c.in_ok-start.start start.0 start.1 (sym (ends at.After-equal) ∙ c.if-not-equal.false)))
+    rw c.from.ensures (sym (ap answered (both-there c.args.widths.now c.in_ok-start.start start.0 start.1 (sym (ends at.After-equal) ∙ c.if-not-equal.false))))

@@ -33,31 +33,27 @@ module _ (start : ℕ) (values : List ℕ) where
     unfolding judged_values
     right first = rw (eq-eqb _ _ checks, eq-eqb _ _ first)
 
-pub overflow_cast-values : goal.overflow_cast-values
-overflow_cast-values c =
-    omega (arith, c.type_inv.values (length c.args.values.now - 1))
-
 check-is : (c : After-check_of) → c.check_of.result ≡ check_of c.args.start (take (length c.args.values.now - 1) c.args.values.now)
 check-is c =
     let values = c.args.values.now in
     let start = c.args.start in
     c.check_of.ensures ∙ ap (λ (n : ℕ). check_of start (take n values)) (sub-zero (length values - 1))
 
-pub returns-then-values-last : goal.returns-then-values-last
-returns-then-values-last c =
+pub returns-then-from-check_of : goal.returns-then-from-check_of
+returns-then-from-check_of c =
     let start = c.args.start in
     let values = c.args.values.now in
-    sym (ap answer_of (unchecked start values (λ e. c.if-values-last.true (e ∙ sym (check-is (goal.at.returns-then-values-last c).After-check_of)))))
+    sym (ap answer_of (unchecked start values (λ e. c.if-from-check_of.true (c.from.ensures ∙ e ∙ sym (check-is (goal.at.returns-then-from-check_of c).After-check_of)))))
 
 pub returns-then-values-ne-FNC1 : goal.returns-then-values-ne-FNC1
 returns-then-values-ne-FNC1 c =
     let start = c.args.start in
     let values = c.args.values.now in
-    sym (ap answer_of (unmarked start values (c.if-values-last.false ∙ check-is (goal.at.returns-then-values-ne-FNC1 c).After-check_of) c.if-values-ne-FNC1.true))
+    sym (ap answer_of (unmarked start values (sym c.from.ensures ∙ c.if-from-check_of.false ∙ check-is (goal.at.returns-then-values-ne-FNC1 c).After-check_of) c.if-values-ne-FNC1.true))
 
 pub returns : goal.returns
 returns c =
     let values = c.args.values.now in
     let start = c.args.start in
     let count : length values - 1 - 1 ≡ length (take (length values - 2) (drop 1 values)) = simp (length-take, length-drop) (omega arith) in
-    ap Ok count ∙ sym (ap answer_of (right start values (c.if-values-last.false ∙ check-is (goal.at.returns c).After-check_of) c.if-values-ne-FNC1.false))
+    ap Ok count ∙ sym (ap answer_of (right start values (sym c.from.ensures ∙ c.if-from-check_of.false ∙ check-is (goal.at.returns c).After-check_of) c.if-values-ne-FNC1.false))

@@ -22,7 +22,7 @@ returns-then-equal c =
     let digit = c.candidate-digit.result in
     let letters = c.letters_of-letters.result in
     let is : get_or (rows_of rows) digit [] ≡ letters =
-    sym c.row_of-row.ensures ∙ same_true _ letters (sym c.equal.ensures ∙ c.if-equal.true) in
+    sym (rw c.from.ensures at c.row_of-row.ensures) ∙ same_true _ letters (sym c.equal.ensures ∙ c.if-equal.true) in
     match_found (rows_of rows) letters digit (distinct_rows rows) (rw (ten_rows rows) c.candidate-digit.ensures.upper_bound) is
     ∙ ap (match_in (rows_of rows)) c.letters_of-letters.ensures
 
@@ -32,5 +32,5 @@ returns-else-equal c =
     let letters = c.letters_of-letters.result in
     let digit = c.candidate-digit.result in
     match_none (rows_of rows) letters digit (candidate_in rows letters digit (c.candidate-digit.ensures.candidate, c.candidate-digit.ensures.candidate_2))
-    (λ h is. same_false _ letters (sym c.equal.ensures ∙ c.if-equal.false) (c.row_of-row.ensures ∙ is))
+    (λ h is. same_false _ letters (sym c.equal.ensures ∙ c.if-equal.false) (c.row_of-row.ensures ∙ rw c.from.ensures is))
     ∙ ap (match_in (rows_of rows)) c.letters_of-letters.ensures

@@ -23,12 +23,12 @@ pub in_sets-values-requires : goal.in_sets-values-requires
 in_sets-values-requires c =
     let short = c.args.short.now in
     let digits = printed short c.told-short c.requires in
-    record { below = rw c.row_of-row.ensures (Row.letters_below digits); digits_len = digits.six; below_2 = digits.below }
+    record { below = rw (c.row_of-row.ensures, c.from.ensures) (Row.letters_below digits); digits_len = digits.six; below_2 = digits.below }
 
 values_are : (c : After-in_sets-values) → c.in_sets-values.result ≡ (Row.values (printed c.args.short.now c.told-short c.requires))
 values_are c =
     let short = c.args.short.now in
-    c.in_sets-values.ensures ∙ ap (λ (letters : List ℕ). in_sets letters (take 6 short)) c.row_of-row.ensures
+    c.in_sets-values.ensures ∙ ap (λ (letters : List ℕ). in_sets letters (take 6 short)) (rw c.from.ensures at c.row_of-row.ensures)
 
 pub guarded_half-requires : goal.guarded_half-requires
 guarded_half-requires c =

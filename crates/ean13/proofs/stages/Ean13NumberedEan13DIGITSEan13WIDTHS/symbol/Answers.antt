@@ -15,14 +15,14 @@ use Rattle.ean13.proofs.stages.Ean13NumberedEan13DIGITSEan13WIDTHS.symbol.Goals 
 
 pub in_sets-left-requires-clause-below : goal.in_sets-left-requires-clause-below
 in_sets-left-requires-clause-below c =
-    rw c.row_of-row.ensures (Row.letters_below (left_half c.args.digits.now c.told-digits c.requires))
+    rw (c.row_of-row.ensures, c.from.ensures) (Row.letters_below (left_half c.args.digits.now c.told-digits c.requires))
 
 pub in_sets-left-requires-clause-below_2 : goal.in_sets-left-requires-clause-below_2
 in_sets-left-requires-clause-below_2 c = (left_half c.args.digits.now c.told-digits c.requires).below
 
 left_is : (c : After-in_sets-left) → c.in_sets-left.result ≡ Row.values (left_half c.args.digits.now c.told-digits c.requires)
 left_is c =
-    c.in_sets-left.ensures ∙ ap (λ (letters : List ℕ). in_sets letters (take 6 (drop 1 c.args.digits.now))) c.row_of-row.ensures
+    c.in_sets-left.ensures ∙ ap (λ (letters : List ℕ). in_sets letters (take 6 (drop 1 c.args.digits.now))) (rw c.from.ensures at c.row_of-row.ensures)
 
 pub halves-requires-clause-below : goal.halves-requires-clause-below
 halves-requires-clause-below c =
