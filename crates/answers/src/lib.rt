@@ -1,5 +1,5 @@
 // Lines of answer, as both programs print them: what a call made, or its refusal. Each function writes at the front of what it is lent, and
-// answers the count of bytes written.
+// answers the count of bytes written: no memory is made, and the room is a clause, since the bytes are lent as a slice.
 #![tactic(auto)]
 
 ghost use Rattle.std.specs.Prelude.{◌≡◌, ◌+◌, ◌≤◌, length};

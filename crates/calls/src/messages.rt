@@ -4,7 +4,6 @@ ghost use Rattle.text.specs.Puts.{Puts};
 ghost use Rattle.calls.specs.Answers.{asked_line, ask_typed, added_line, add_after, add_typed};
 
 use answers::{Form, put_answer, put_counted, put_made};
-use refusal::Refusal;
 use requests::faults::put_fault;
 use requests::{Argument, Fault};
 

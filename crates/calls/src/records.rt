@@ -5,7 +5,6 @@ ghost use Rattle.splitting.specs.Splitting.{splits};
 ghost use Rattle.calls.specs.Answers.{records_line, split_line};
 
 use answers::put_answer;
-use refusal::Refusal;
 use splitting::Record;
 
 pub fn split(message: &[u8], places: usize, out: &mut [u8]) -> usize

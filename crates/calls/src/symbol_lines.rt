@@ -9,7 +9,6 @@ ghost use Rattle.symbols.specs.Readings.{reads};
 ghost use Rattle.calls.specs.Answers.{kind_name, named_line, read_line, read_typed};
 
 use answers::{Form, put_answer, put_made};
-use refusal::Refusal;
 use requests::faults::put_fault;
 use requests::{Argument, Fault};
 use symbols::Kind;

@@ -35,7 +35,7 @@ pub fn value_of(part: &[u8]) -> Option<u8>
     let widths = packed_six(part);
     let candidate = candidate_of(key_of(widths));
     if widths == tables::packed_of(candidate) {
-        // below 106, so nothing is cut off
+        // below 106, so nothing is cut off; `try_from` would make a refusal that can't come
         Some(candidate as u8)
     } else {
         None
@@ -49,7 +49,7 @@ fn candidate_of(key: u64) -> usize
     ensures upper_bound { result < 106 }
 {
     let eight = tables::eight_of(key / 8);
-    // below 128, so nothing is cut off
+    // below 128, so nothing is cut off; `try_from` would make a refusal that can't come
     ((eight >> (8 * (key % 8))) % 128) as usize
 }
 

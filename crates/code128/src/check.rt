@@ -1,4 +1,4 @@
-// The modulo 103 check.
+// The modulo 103 check. Values are numbers, as the definition has them, so their bounds are clauses.
 ghost use Rattle.std.specs.Prelude.{◌≡◌, ◌<◌, ◌≤◌, length};
 ghost use Rattle.code128.specs.Check.{check_of};
 

@@ -64,7 +64,8 @@ pub fn values_of(number: &[u8], values: &mut [u8]) -> Result<usize, Refusal>
     Ok(count)
 }
 
-// Lays the number of these digits, if the last of them is its check digit: the end of every reading of a number.
+// Lays the number of these digits, if the last of them is its check digit: the end of every reading of a number. That they are below ten is a
+// clause, since what is scanned is defined of lists of numbers.
 pub fn lay_values(values: &[u8], lent: &mut [u8]) -> Result<usize, Refusal>
     requires values_nonzero { 0 < length values.now }
     requires values_len_bound { length values.now ≤ 18 }

@@ -1,4 +1,5 @@
-// Scanning: a character is judged on the widths from where it begins, by one look in a table.
+// Scanning: a character is judged on the widths from where it begins, by one look in a table. Four widths are a part of a longer list, so their
+// count is a clause.
 ghost use Rattle.std.specs.Prelude.{◌≡◌, ◌++◌, ◌+◌, ◌*◌, ◌≤◌, length};
 ghost use Rattle.refusal.specs.Fills.{FillsOwn};
 ghost use Rattle.patterns.specs.Patterns.{characters};

@@ -6,7 +6,7 @@ ghost use Rattle.elements.specs.Strings.{parsed};
 use refusal::Refusal;
 
 // The count of a message's element strings, or the refusal of the first bad one. A string that another one follows has four bytes or
-// more, so twelve places hold the identifiers used.
+// more, so twelve places hold the identifiers used. No memory is made, so these stand in an array with their count.
 pub fn count(message: &[u8]) -> Result<usize, Refusal>
     requires { length message.now ≤ 48 }
     ensures { result ≡ answer_of (parsed message.now) }

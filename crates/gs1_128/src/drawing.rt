@@ -21,7 +21,7 @@ pub fn characters_of(message: &[u8], characters: &mut [u8; Gs1128::WRITTEN_CHARA
 {
     let count = spelling::spell(message, characters);
     let check = code128::check::check_of(usize::from(characters[0]), &characters[1..count]);
-    // below 103, so nothing is cut off
+    // below 103, so nothing is cut off; `try_from` would make a refusal that can't come
     characters[count] = check as u8;
     count + 1
 }

@@ -1,4 +1,5 @@
-// What widths hold: the start, where the stop ends them, and the values of the characters between.
+// What widths hold: the start, where the stop ends them, and the values of the characters between. Six widths are a part of a longer list, and how
+// many there are in all is the symbol's, so their counts are clauses.
 ghost use Rattle.std.specs.Prelude.{◌≡◌, ◌+◌, ◌*◌, ◌≤◌, length};
 ghost use Rattle.refusal.specs.Fills.{answered, FillsOwn};
 ghost use Rattle.patterns.specs.Matching.{match_in};

@@ -1,4 +1,5 @@
-// What values hold, wherever they were found: whether they are a symbol's, and the message that they spell.
+// What values hold, wherever they were found: whether they are a symbol's, and the message that they spell. A start is a number that the check
+// sums, so its bound is a clause.
 ghost use Rattle.std.specs.Prelude.{◌≡◌, ◌≤◌, ◌<◌, length};
 ghost use Rattle.refusal.specs.Fills.{answer_of, FillsOwn};
 ghost use Rattle.gs1_128.specs.Scanning.{judged_values};

@@ -1,4 +1,4 @@
-// What the data of an element string must be.
+// What the data of an element string must be. They are a part of a message, so their length is a clause.
 ghost use Rattle.std.specs.Prelude.{◌≡◌, true, ◌≤◌, ◌<◌, length};
 ghost use Rattle.digits.specs.Digit.{is_digit};
 ghost use Rattle.character_set_82.specs.Characters.{is_of82};
@@ -6,7 +6,6 @@ ghost use Rattle.identifiers.specs.Data.{all_pass, is_number, days_in, is_date, 
 ghost use Rattle.identifiers.specs.Rows.{sized};
 
 use crate::{Content, Kind};
-use refusal::Refusal;
 
 // Whether the data is right for its kind.
 pub fn right_data(kind: Kind, bytes: &[u8]) -> bool

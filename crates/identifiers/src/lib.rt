@@ -119,7 +119,7 @@ fn digit_byte(value: usize) -> u8
     requires { value < 10 }
     ensures { result ≡ 48 + value }
 {
-    // one digit, so nothing is cut off
+    // one digit, so nothing is cut off; `try_from` would make a refusal that can't come
     b'0' + value as u8
 }
 

@@ -1,4 +1,5 @@
-// Drawing: ten widths at a time, each pair's lent on to be written.
+// Drawing: ten widths at a time, each pair's lent on to be written. That digits are below ten is a clause, since what is drawn is defined of lists
+// of numbers; and so is the length of what is lent, a part of the symbol.
 ghost use Rattle.std.specs.Prelude.{◌≡◌, length};
 ghost use Rattle.laws.specs.Below.{Below};
 ghost use Rattle.patterns.specs.Patterns.{drawn};

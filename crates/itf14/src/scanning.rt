@@ -49,7 +49,7 @@ fn pair_value(widths: &[u8]) -> Option<u8>
     let second = candidate(widths, 1);
     let pattern = tables::pair(first, second);
     if patterns::equal(&pattern, widths) {
-        // two digits, so nothing is cut off
+        // two digits, so nothing is cut off; `try_from` would make a refusal that can't come
         Some((10 * first + second) as u8)
     } else {
         None

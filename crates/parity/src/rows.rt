@@ -1,4 +1,5 @@
-// The parity rows: the six letters that stand for a digit, and the digit that six letters stand for.
+// The parity rows: the six letters that stand for a digit, and the digit that six letters stand for. Six values may be a part of a longer list,
+// so their count is a clause.
 ghost use Rattle.std.specs.Prelude.{◌≡◌, [], map, ◌/◌, ◌<◌, length, get_or};
 ghost use Rattle.patterns.specs.Matching.{match_in, Candidate};
 ghost use Rattle.parity.specs.Rows.{by_first_digit, by_check_digit, rows_of};

@@ -1,4 +1,5 @@
-// What the desk says of itself: the line of `help`, and the lines for what is no request.
+// What the desk says of itself: the line of `help`, and the lines for what is no request. The room is a clause, since the bytes are lent as a
+// slice.
 ghost use Rattle.std.specs.Prelude.{◌≤◌, length};
 ghost use Rattle.text.specs.Puts.{Puts};
 ghost use Rattle.requests.specs.Texts.{help_line, described, fault_line};

@@ -70,7 +70,7 @@ pub fn read_as(kind: Kind, widths: &[u8], bytes: &mut [u8]) -> Result<usize, Ref
     }
 }
 
-// Draws a symbol of a named kind.
+// Draws a symbol of a named kind, by a `match` as well.
 pub fn write_as(kind: Kind, content: &[u8], widths: &mut [u8]) -> Result<usize, Refusal>
     ensures { Fills (writes_as kind content.now (length widths.old)) widths.old result widths.new }
 {

@@ -98,6 +98,6 @@ fn put_digits(n: usize, out: &mut [u8]) -> usize
 fn last_of(n: usize) -> u8
     ensures { result ≡ last_of n }
 {
-    // one digit, so nothing is cut off
+    // one digit, so nothing is cut off; `try_from` would make a refusal that can't come
     b'0' + (n % 10) as u8
 }

@@ -1,4 +1,4 @@
-// Widths as text, both ways.
+// Widths as text, both ways. That a width has one digit is a clause, since what is drawn is defined of lists of numbers.
 ghost use Rattle.std.specs.Prelude.{◌≡◌, ◌≤◌, ◌<◌, length};
 ghost use Rattle.laws.specs.Below.{Below};
 ghost use Rattle.text.specs.Puts.{Puts};
@@ -50,7 +50,7 @@ fn numbers_in(typed: &[u8], widths: &mut [u8]) -> Option<usize>
     let mut count = 0;
     for word in typed.split(|byte| *byte == b' ') {
         let width = crate::number_in(word, 255)?;
-        // at most 255, so nothing is cut off
+        // at most 255, so nothing is cut off; `try_from` would make a refusal that can't come
         widths[count] = width as u8;
         count += 1;
     }

@@ -37,7 +37,7 @@ pub(crate) fn condense(digits: &[u8; UpcE::DIGITS]) -> Result<[u8; SHORT], Refus
     Err(Refusal::Condensed)
 }
 
-// What a rule would leave of the digits. The rules are those of `shorts`, by number.
+// What a rule would leave of the digits. The rules are those of the list `shorts`, by number, so a `match` says which.
 fn short_by(rule: usize, digits: &[u8; UpcE::DIGITS]) -> [u8; SHORT]
     requires { rule < 4 }
     ensures { result ≡ get_or (shorts digits.now) rule [] }

@@ -1,4 +1,5 @@
-// The stages of UPC-E: from a short number to a symbol, and from a symbol to a short number.
+// The stages of UPC-E: from a short number to a symbol, and from a symbol to a short number. That digits are below ten is a clause, since what is
+// drawn is defined of lists of numbers.
 ghost use Rattle.std.specs.Prelude.{◌≡◌};
 ghost use Rattle.laws.specs.Below.{Below};
 ghost use Rattle.refusal.specs.Fills.{answered, FillsOwn};
