@@ -13,6 +13,12 @@ IfBlock (More block) says = says block
 IfBlock (Last block) says = says block
 IfBlock End says = Unit
 
+-- what is said of the last block, where that was taken
+abbrev pub IfLast : Taken → (Block → Type 0) → Type 0
+IfLast (More block) says = Unit
+IfLast (Last block) says = says block
+IfLast End says = Unit
+
 -- the bytes of a block from `start` on, `most` of them at the most, stand at the front of `after`
 pub record Holds (block : List ℕ) (start most held : ℕ) (after : List ℕ) : Type 0 where
   pub few : held ≤ most

@@ -42,16 +42,8 @@ pub fn serve<A: Answerer>(rt: &(impl Input + Print + Eprint), input: &mut [u8], 
     requires longest_answer_in_bounds { A.LONGEST ≤ length output.old }
 {
     let mut taken = blocks::first(rt, input);
-    // A proved loop has to end, and nothing says that the input does, so blocks are counted, up to a number that no run comes to.
-    for _ in 0..u64::MAX {
-        taken = match taken {
-            Taken::More(block) => take_block::<A>(rt, block, input, output),
-            Taken::Last(block) => {
-                answer_block::<A>(rt, &input[..block.held + block.more], output);
-                return;
-            }
-            Taken::End => return,
-        };
+    while let Taken::More(block) | Taken::Last(block) = taken {
+        taken = take_block::<A>(rt, block, input, output);
     }
 }
 
@@ -68,6 +60,7 @@ fn take_block<A: Answerer>(
     requires longest_answer_in_bounds { A.LONGEST ≤ length output.old }
     ensures held { IfBlock result (λ after. Held A.OVER (take (filled block) input.old) after.held input.new) }
     ensures result_in_bounds { IfBlock result (λ after. filled after ≤ length input.old) }
+    ensures left { IfBlock result (λ after. after.left < block.left) }
 {
     let end = block.held + block.more;
     let Some(start) = answer_block::<A>(rt, &input[..end], output) else {
