@@ -13,6 +13,10 @@ use Rattle.code_sets.proofs.DecodedLaws.{decoded_refused, decoded_empty, decoded
 use Rattle.code_sets.proofs.text_of.Goals.{In_ok-count}
 use Rattle.code_sets.proofs.text_of.Goals as goal
 
+-- the array is the whole list
+whole : (c : In_ok-count) → c.in-Some.own.now ≡ c.args.text.now
+whole c = c.in-Some.ensures.cases.same
+
 pub returns-in_err-count : goal.returns-in_err-count
 returns-in_err-count c =
     let f = c.in_err-count.field-0.0 in
@@ -36,4 +40,4 @@ returns-then-count-eq0 c =
 pub returns-else-count-eq0 : goal.returns-else-count-eq0
 returns-else-count-eq0 c =
     let there = (goal.at.returns-else-count-eq0 c).In_ok-count in
-    own_same _ _ _ _ _ (decoded_made c.args.start c.args.values.now _ (front there).0 (omega (arith, long there, c.if-count-eq0.false)) ∙ sym (front there).0) c.in_ok-count.ensures
+    own_same _ _ _ _ _ (decoded_made c.args.start c.args.values.now _ (front there).0 (omega (arith, long there, c.if-count-eq0.false)) ∙ sym (front there).0) (rw (sym (whole there)) c.in_ok-count.ensures)

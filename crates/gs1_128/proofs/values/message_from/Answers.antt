@@ -19,7 +19,7 @@ front : (c : In_ok-count) → (decoded c.args.start c.args.values.now ≡ made (
 front c = own_front _ _ c.text_of.new.text _ c.in_ok-count.count refl c.in_ok-count.ensures
 
 pub shared_ref_as_front-test : goal.shared_ref_as_front-test
-shared_ref_as_front-test c = omega (arith, c.text_of.array_long, (front (goal.at.shared_ref_as_front-test c).In_ok-count).1)
+shared_ref_as_front-test c = omega (arith, c.text_of.auto.text, (front (goal.at.shared_ref_as_front-test c).In_ok-count).1)
 
 pub returns-in_err-test : goal.returns-in_err-test
 returns-in_err-test c =
