@@ -1,16 +1,25 @@
--- Digits are among the 82 and the separator is not, by computed tests; a message's bytes are the 82 and the separator.
-use Prim.Native.Nat.{ℕ}
+-- The 82 are five ranges, digits are among them and the separator is not, by computed tests; a message's bytes are the 82 and the separator.
+use Rattle.std.specs.Char.{is_ascii_alphabetic}
+use Rattle.std.specs.Int.{is_in_range}
+use Prim.Native.Nat.{ℕ, ◌<◌}
 use mathlib.Core.Path.{◌≡◌, refl}
-use mathlib.Core.Bool.{Bool, true, false, not}
+use mathlib.Core.Bool.{Bool, true, false, not, ◌||◌}
 use native.Mathlib.Omega.{arith}
 use lib.Dec.{eqb}
 use borrow.Author.Tests.{eqb-true}
 use Rattle.laws.specs.First.{first_not}
 use Rattle.laws.specs.Among.{place_in}
-use Rattle.laws.proofs.AmongLaws.{in_run}
+use Rattle.laws.proofs.AmongLaws.{in_run, same_run}
 use Rattle.digits.specs.Digit.{is_digit}
 use Rattle.digits.proofs.DigitLaws.{digit_range}
 use Rattle.character_set_82.specs.Characters.{eighty_two, is_of82, separator, is_message_byte}
+
+abbrev pub in_ranges : ℕ → Bool
+in_ranges b = is_in_range 37 63 b || is_ascii_alphabetic b || is_in_range 33 34 b || eqb b 95
+
+pub ranges_of_82 : (b : ℕ) → b < 256 → is_of82 b ≡ in_ranges b
+unfolding is_of82 eighty_two place_in first_not
+ranges_of_82 b h = same_run in_ranges is_of82 0 256 tt b (omega arith) (omega arith)
 
 pub digit_of_82 : (b : ℕ) → is_digit b ≡ true → is_of82 b ≡ true
 unfolding is_of82 eighty_two place_in first_not
