@@ -1,4 +1,4 @@
-// The refusals of document 01, what a call answers, and the one copy into a lent list.
+// The refusals of document 01, and the copy of a whole list into a lent one.
 #![tactic(auto)]
 
 ghost use Rattle.std.specs.Prelude.{◌≡◌, length, Some};
