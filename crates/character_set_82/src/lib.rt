@@ -6,8 +6,8 @@ ghost use Rattle.character_set_82.specs.Characters.{is_of82, is_message_byte};
 
 pub const SEPARATOR: u8 = 29;
 
-// Whether a byte is one of the 82 characters. Digits are the commonest, then letters; in one `matches!` of all the ranges a letter takes nearly
-// twice as long.
+// Whether a byte is one of the 82 characters. Digits are the commonest, then letters; one `matches!` of all the ranges compares a letter with
+// each of them in turn.
 #[tactic(auto, using(crate::proofs::CharacterLaws::ranges_of_82))]
 pub fn is_of_82(byte: u8) -> bool
     ensures { result ≡ is_of82 byte }
